@@ -71,9 +71,9 @@ def behind(told):
 
 
 def toolchain():
-    """The toolchain here; None if there is none."""
+    """The toolchain here."""
     if shutil.which("rt") is None:
-        return None
+        return "none"
     done = subprocess.run(["rt", "version"], capture_output=True, text=True, check=True)
     return done.stdout.strip()
 

@@ -26,7 +26,7 @@ VERDICT = re.compile(r"^fn (\S+): (.*)$", re.M)
 WRONG = re.compile(r"^(?:\./)?proofs/([\w/+-]+)/\w+\.antt:\d+:\d+: error: (.*)$", re.M)
 #: What the prover says of a proof file that names a step that the wrong body lacks.
 NO_NAME = re.compile(r"has no field|is not in scope|has no `|was not admitted")
-SECONDS = 1500
+SECONDS = 7200
 
 
 def crates(top=TOP, tests=True):

@@ -75,6 +75,7 @@ C_PARTS = PARTS.replace(
 OF_SCRIPTS = {
     "builds launcher library_builds": "build compiling link_library link_program sources targets",
     "pages": "docs figures kinds prose",
+    "clause_tools": "compare_clauses uncited_definitions",
     "release": "blossom_verify debian_package gate_stamp release",
 }
 OF_C = (

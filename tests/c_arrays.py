@@ -381,6 +381,23 @@ def verdicts(program, library, tests):
                 tests.compare("%s over arrays, a length" % kind, b"", rejected, told[0])
 
 
+def negative_answers(program, library, tests):
+    """A negative edge of a walk is a number of a document, so it gets the verdict that its text
+    gets; a negative count is a number of none."""
+    arrays, rejected = Arrays(library), library.header.statuses["REJECTED"]
+    no_document = (rejected, [library.header.violations["DOC_FORM"], 0])
+    for kind, given in JUDGED:
+        instance = instance_text(kind, given)
+        _, numbers = arrays.answer("SOLVE", kind, given)
+        for place in range(8, 8 + numbers[3]):
+            changed = numbers[:place] + [-1] + numbers[place + 1 :]
+            text, told = text_of(kind, False, changed), no_document
+            if kind in WALKS:
+                told = verdict_of(library.answer("CHECK", kind, instance + text))
+            name = "%s over arrays, negative at %d" % (kind, place)
+            tests.compare(name, text, told, arrays.check(kind, given, changed))
+
+
 def equal_calls(program, library, tests):
     """Calls in several threads answer as one after another."""
     arrays, all_rows = Arrays(library), []
@@ -397,4 +414,4 @@ def equal_calls(program, library, tests):
         tests.compare("over arrays, equal calls, %s %s" % row[:2], b"", one, three)
 
 
-PARTS = (same_answers, buffers, faults, verdicts, equal_calls)
+PARTS = (same_answers, buffers, faults, verdicts, negative_answers, equal_calls)

@@ -8,6 +8,7 @@ import subprocess
 import sys
 import tempfile
 
+import from_dist
 from c_parts import Skipped
 from made_release import TOP, bytes_of, commit, git, is_built, stand_in_checkout, write
 
@@ -57,6 +58,15 @@ def made(folder, tests):
     commit(folder)
     status, said = says(folder)
     tests.compare("dist/ is made again", said.encode(), (0, True), (status, first == files(folder)))
+    with tempfile.TemporaryDirectory() as room:
+        inside = from_dist.unpacked(room, os.path.join(folder, "dist"))
+        for path, built in (
+            ("bin/blossom", "crates/blossom/out/blossom"),
+            ("lib/libblossom.so", "capi/out/libblossom.so"),
+            ("lib/libblossom.a", "capi/out/libblossom.a"),
+        ):
+            same = bytes_of(os.path.join(inside, path)) == bytes_of(os.path.join(folder, built))
+            tests.compare("what --dist tests as " + path, b"", True, same)
     equals = "dist/ (%s) equals a release made here, byte by byte\n" % note(folder)["version"]
     tests.compare("dist/ is compared", b"", (0, equals), says(folder, "--check"))
 

@@ -17,6 +17,7 @@ import sys
 import asked_room
 import builds
 import c_library
+import clause_tools
 import decompositions
 import dist
 import dist_program
@@ -682,6 +683,7 @@ for part in (
 ):
     part(TESTS)
 pages.check(TESTS)
+clause_tools.check(TESTS)
 plain_program.check(TESTS)
 process_ends.check(PROGRAM, TESTS)
 refused_memory.check(PROGRAM, TESTS)

@@ -454,8 +454,8 @@ def refuse_strange(certificate: Certificate) -> None:
 
 def refuse_outside(what: str, numbers: List[int], count: int) -> None:
     """SolverError: one of the numbers isn't from 1 to this one."""
-    wrong = next((number for number in numbers if not 1 <= number <= count), None)
-    if wrong is not None:
+    if numbers and not 1 <= min(numbers) <= max(numbers) <= count:
+        wrong = next(number for number in numbers if not 1 <= number <= count)
         raise SolverError("document refers to %s %d, but the graph has %d: was it computed for"
                           " another graph?" % (what, wrong, count))
 

@@ -418,11 +418,19 @@ def legend(instance: Instance) -> bytes:
 def walked(instance: Instance, start: int, edges: List[int]) -> List[EdgeName]:
     """The edges of a walk as (from, to) or (from, to, key), the way they are walked. The arguments
     are numbers from 1."""
-    here, steps, ends, names = instance.nodes[start - 1], [], instance.ends, instance.edges
-    for number in edges:
-        first, second = ends[number - 1]
-        there = second if here == first else first
-        name = names[number - 1]
-        steps.append((here, there) if len(name) == 2 else (here, there, *name[2:]))
-        here = there
-    return steps
+    indices = [number - 1 for number in edges]
+    nodes = list(map([None, *instance.nodes].__getitem__, along(instance, start, indices)))
+    steps: List[EdgeName] = list(zip(nodes, nodes[1:]))
+    if all(len(name) == 2 for name in instance.table.names_of(indices[:1])):
+        return steps
+    return [(*step, *name[2:]) for step, name in zip(steps, instance.table.names_of(indices))]
+
+
+def along(instance: Instance, start: int, indices: List[int]) -> List[int]:
+    """The vertices of a walk from this vertex along edges."""
+    here, vertices = start, [start]
+    first, second = instance._numbers.first.tolist(), instance._numbers.second.tolist()
+    for index in indices:
+        here = second[index] if here == first[index] else first[index]
+        vertices.append(here)
+    return vertices

@@ -9,6 +9,7 @@ import unittest
 from unittest import mock
 
 import blossom
+from blossom.library import loaded
 from support import STAR, TRIANGLES, StandIn, library_or_skip, wanted
 from test_process import stand_in
 
@@ -153,7 +154,7 @@ class ByLibrary(unittest.TestCase):
     def test_small_graphs_make_no_pool_and_take_no_longer_than_a_loop(self):
         by = blossom.Library(library_or_skip())
         looped = batched = 1.0
-        for _ in range(5):
+        for _ in range(40):  # (other work on the machine may slow some of them)
             start = time.process_time()
             one_by_one = [blossom.max_weight_matching(graph, engine=by) for graph in self.SMALL]
             looped = min(looped, time.process_time() - start)
@@ -161,6 +162,8 @@ class ByLibrary(unittest.TestCase):
             with mock.patch("concurrent.futures.ThreadPoolExecutor", side_effect=AssertionError):
                 answers = blossom.solve_many("match", self.SMALL, engine=by)
             batched = min(batched, time.process_time() - start)
+            if batched < 1.2 * looped and batched / len(self.SMALL) < 5e-4:
+                break
         self.assertEqual([one.weight for one in answers], [one.weight for one in one_by_one])
         self.assertLess(batched, 1.2 * looped)
         self.assertLess(batched / len(self.SMALL), 5e-4)  # (0.1 ms, on an idle machine)
@@ -178,7 +181,7 @@ class ByLibrary(unittest.TestCase):
         )
         self.assertEqual(names(found), ["Infeasible", "Answer"] * 2)
 
-    def test_a_call_leaves_the_interpreter_to_other_threads(self):
+    def test_calls_leave_the_interpreter_to_other_threads(self):
         by = blossom.Library(library_or_skip())
         of = blossom.Instance.from_graph(
             [
@@ -188,20 +191,40 @@ class ByLibrary(unittest.TestCase):
             ],
             "perfect",
         )
-        done, turns = threading.Event(), []
+        document = by.solve("solve", of)[1]
+        for name, call in (
+            ("blossom_call", lambda: by.run("solve", "perfect", of.text)),
+            ("blossom_solve_arrays", lambda: by.solve("solve", of)),
+            ("blossom_check_arrays", lambda: by.judge(of, document)),
+        ):
+            with self.subTest(name):
+                self.assertTrue(self.leaves_turns(loaded(by.path), name, call))
+
+    def leaves_turns(self, library, name, call):
+        """Whether another thread has a turn while the function of this name runs, in one of many
+        calls. No thread is made to give up its turn, so it has one only if the function does."""
+        function, turns, inside, done = getattr(library, name), [0], [], threading.Event()
+
+        def watched(*words):
+            before = turns[0]
+            status = function(*words)
+            inside.append(turns[0] > before)
+            return status
 
         def count():
             while not done.is_set():
-                turns.append(time.monotonic())
-                time.sleep(0.001)
+                turns[0] += 1
+                time.sleep(0)
 
-        thread = threading.Thread(target=count)
-        thread.start()
-        start = time.monotonic()
-        by.run("solve", "perfect", of.text)
-        end = time.monotonic()
-        done.set()
-        thread.join()
-        inside = sum(start < turn < end for turn in turns)
-        self.assertGreater(inside, 20 * (end - start))
-        self.assertGreater(inside, 1)
+        thread, interval = threading.Thread(target=count), sys.getswitchinterval()
+        with mock.patch.object(library, name, watched):
+            sys.setswitchinterval(1000)
+            try:
+                thread.start()
+                while not any(inside) and len(inside) < 500:
+                    call()
+            finally:
+                done.set()
+                sys.setswitchinterval(interval)
+                thread.join()
+        return any(inside)

@@ -7,7 +7,7 @@ import unittest
 
 import blossom
 from blossom import solving
-from blossom.documents import is_whole, read
+from blossom.documents import read
 from blossom.fitting import fitted
 from support import STAR, TRIANGLES, StandIn, instances, library_or_skip, wanted
 
@@ -220,7 +220,7 @@ class Words(unittest.TestCase):
         sets, _, paths = self.TEXT.partition(b"r 1")
         whole = [self.TEXT, b"s OPTIMAL gallai 1\nx 1 1\nd 0\nu 0\n"]
         parts = [sets, sets + b"r 1 0\n", b"s OPTIMAL gallai 1\nx 2 1\n"]
-        self.assertEqual([is_whole(read(text)) for text in whole + parts], 2 * [True] + 3 * [False])
+        self.assertEqual([read(text).is_whole() for text in whole + parts], 2 * [True] + 3 * [False])
 
     def test_a_brief_answer_has_the_sets_alone(self):
         answer = self.answer(self.TEXT.partition(b"r 1")[0])

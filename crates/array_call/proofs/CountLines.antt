@@ -1,5 +1,5 @@
 -- The counts that lines give to edges, from the last line to the first.
-use Rattle.certificates.proofs.Common.{◌≡◌, ℕ, ◌+◌, ◌-◌, ◌<◌, ℤ, pos, true, false, Bool, cond, List, ◌∷◌, length, map, drop, get_or, set, sym, ap, ◌∙◌}
+use Rattle.certificates.proofs.Common.{◌≡◌, ℕ, ◌+◌, ◌<◌, ℤ, pos, true, false, Bool, cond, List, ◌∷◌, length, map, drop, get_or, set, sym, ap, ◌∙◌}
 use Rattle.certificates.proofs.Common.{arith, int_eq, nat_abs, ℕ_discrete, ints, false_from_ne_true, Decides-int_eq, drop_more, get_or-map, length-map, ext_get_or}
 use Rattle.certificates.proofs.Common.{get_or-map-range_with_len, length-map-range_with_len, CountLine, count_of, counts_of, get_or-set_same, get_or-set_other}
 

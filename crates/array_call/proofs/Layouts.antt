@@ -7,7 +7,7 @@ use Rattle.array_call.specs.declared.laying.Items.{Items}
 use Rattle.array_call.specs.Layout.{set_list, lists, leads, all_items, offset_at, offsets}
 use Rattle.array_call.specs.Laid.{HasItemsOf}
 
-items-more : (xss : List (List ℤ)) (xs : List ℤ) → all_items (xss ++ xs ∷ []) ≡ all_items xss ++ xs
+pub items-more : (xss : List (List ℤ)) (xs : List ℤ) → all_items (xss ++ xs ∷ []) ≡ all_items xss ++ xs
 items-more xss xs = flat_map-append (λ (ys : List ℤ). ys) xss (xs ∷ []) ∙ ap (λ (ys : List ℤ). all_items xss ++ ys) (append-nil xs)
 
 abbrev begin_of : List (List ℤ) → ℤ

@@ -1,5 +1,5 @@
 -- The lines of an answer in numbers, and the forms of their documents.
-use Rattle.certificates.proofs.Common.{◌≡◌, ℕ, ◌≤◌, ℤ, pos, ◌≤ℤ◌, Bool, true, List, [], map, All, Option, None, Some, refl, sym, ap, subst, arith, list_all, ints}
+use Rattle.certificates.proofs.Common.{◌≡◌, ℕ, ◌≤◌, ℤ, pos, ◌≤ℤ◌, Bool, true, List, [], length, map, All, Option, None, Some, refl, sym, ap, subst, arith, list_all, ints}
 use Rattle.certificates.proofs.Common.{and_from, All-weaker, All-map, All-nil, Kind, AnswerForm, form_of, proof_of, are_duals, asks_conservative, Optimal, NonConservative, CountLine}
 use Rattle.certificates.proofs.Common.{WalkLine, DualLine, SetLine, Part, blank, at_most_one, has_any, is_counts, is_walk, is_formed, admits, AscendsBy, IsDocument, all_joined, all_mapped}
 use Rattle.certificates.proofs.Common.{IsCountWithin, ◌∙◌, passing, passing-range, passing-ascends}
@@ -7,7 +7,10 @@ use Rattle.doc_format.specs.Form.{ascends}
 use Rattle.document_lines.specs.Lines.{is_used, line_at}
 use Rattle.document_lines.proofs.Ascents.{ascends-pos, map-map}
 use Rattle.solve_kinds.proofs.Forms.{dual-taken, set-taken, ordered-four}
-use Rattle.array_call.specs.Sheets.{IsCountOn, HasEdges, HasItems, AreIn, HasSizeFor}
+use Rattle.certificates.proofs.Common.{Document, counts_of}
+use Rattle.array_call.specs.Layout.{answer_numbers}
+use Rattle.array_call.specs.Documents.{StatesNumbers}
+use Rattle.array_call.specs.Sheets.{IsCountOn, HasEdges, HasItems, AreIn, IsAnswerOn}
 use Rattle.array_call.proofs.SetItems.{sets-formed}
 use Rattle.mb_problem.specs.declared.kind.AnswerForm.TheVariants as form
 use Rattle.doc_format.specs.declared.part.Part.TheVariants as part
@@ -32,9 +35,20 @@ lines-on cs m =
     All-map (IsCountOn m) (line_at cs) (passing (is_used cs) m)
     (All-weaker (λ v. (1 ≤ v) × (v ≤ m)) (λ v. IsCountOn m (line_at cs v)) (line-on cs m) (passing (is_used cs) m) (passing-range (is_used cs) m))
 
-pub counts-on : (f : AnswerForm) (n m : ℕ) (counts : List CountLine) (walk : Option WalkLine) → AreIn f n counts walk → HasSizeFor f n m → All (IsCountOn m) counts
-counts-on form.Counts n m counts walk h size = subst (λ (k : ℕ). All (IsCountOn k) counts) size h.1
-counts-on form.Walk n m counts walk h size = subst (All (IsCountOn m)) (sym h.0) (All-nil (IsCountOn m))
+pub counts-on : (f : AnswerForm) (m : ℕ) (answer : List ℤ) (counts : List CountLine) (walk : Option WalkLine) → AreIn f (length answer) counts walk → IsAnswerOn f m answer
+    → All (IsCountOn m) counts
+counts-on form.Counts m answer counts walk h is = subst (λ (k : ℕ). All (IsCountOn k) counts) is.0 h.1
+counts-on form.Walk m answer counts walk h is = subst (All (IsCountOn m)) (sym h.0) (All-nil (IsCountOn m))
+
+-- an answer on m edges is one on as many edges as it has numbers
+pub of-its-length : (f : AnswerForm) (m : ℕ) (answer : List ℤ) → IsAnswerOn f m answer → IsAnswerOn f (length answer) answer
+of-its-length form.Counts m answer is = (refl, is.1)
+of-its-length form.Walk m answer is = tt
+
+-- and its numbers are those of lines with this many counts
+pub stated : (f : AnswerForm) (m : ℕ) (d : Document) (answer : List ℤ) → IsAnswerOn f m answer → StatesNumbers f (length answer) d.counts d.walk answer → answer_numbers f m d ≡ answer
+stated form.Counts m d answer is states = subst (λ (k : ℕ). map pos (counts_of d.counts k) ≡ answer) is.0 states
+stated form.Walk m d answer is states = states
 
 -- ---- forms
 

@@ -42,10 +42,15 @@ pub record BreaksFirst (kind : Kind) (a : Arrays) (numbers : List ℤ) (rule : D
   pub line : ℕ
   pub broken : IsVerdict kind (network_of kind a) document (Rejected rule line)
 
+-- no document of the kind has the numbers
+abbrev pub HaveNoDocument : Kind → Arrays → List ℤ → Type 0
+HaveNoDocument kind a numbers = (d : Document) → d.kind ≡ kind → IsOfNumbers kind a numbers d → ⊥
+
 -- the numbers are accepted, or no document's, or those of one that breaks this rule first
 abbrev pub HasVerdict : Kind → Arrays → List ℤ → Option DocRule → Type 0
 HasVerdict kind a numbers None = Accepts kind a numbers
-HasVerdict kind a numbers (Some rule) = (rule ≡ DocForm) ⊎ BreaksFirst kind a numbers rule
+HasVerdict kind a numbers (Some rule) =
+    ((rule ≡ DocForm) × HaveNoDocument kind a numbers) ⊎ BreaksFirst kind a numbers rule
 
 -- no rule if the numbers are accepted; or the rule that they break; or why nothing was judged
 abbrev pub Checks : Kind → Arrays → List ℤ → Result (Option DocRule) ArrayError → Type 0

@@ -5,5 +5,6 @@ pub mod Made
 pub mod Layout
 pub mod Laid
 pub mod Sheets
+pub mod Documents
 pub mod Answers
 pub mod Checks

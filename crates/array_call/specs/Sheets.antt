@@ -51,6 +51,16 @@ pub record IsParted (numbers : List ℤ) (s : Sheet) : Type 0 where
   pub whole : numbers ≡ s.head ++ (s.answer ++ (s.duals ++ (s.leads ++ (s.offsets ++ (s.items
       ++ (s.excluding ++ rest))))))
 
+-- the first offsets, items and members, one offset more than there are leads, and as many items and
+-- members as the head says
+pub record IsListed (head : List ℤ) (count : ℕ) (numbers offsets items excluding : List ℤ) : Type 0
+  where
+    pub offset_count : length offsets ≡ count + 1
+    pub item_count : number_at head 6 ≡ pos (length items)
+    pub excluding_count : number_at head 7 ≡ pos (length excluding)
+    pub rest : List ℤ
+    pub whole : numbers ≡ offsets ++ (items ++ (excluding ++ rest))
+
 -- ---- the lines
 
 -- a line of one of m edges, with a nonnegative count
@@ -72,10 +82,10 @@ AreIn form.Walk m counts walk = (counts ≡ []) × HasEdges walk
 abbrev pub HasItems : SetLine → Type 0
 HasItems z = All (λ x. is_item x ≡ true) z.items
 
--- counts are as many as edges
-abbrev pub HasSizeFor : AnswerForm → ℕ → ℕ → Type 0
-HasSizeFor form.Counts size m = size ≡ m
-HasSizeFor form.Walk size m = Unit {0}
+-- counts are as many as edges, and none is negative
+abbrev pub IsAnswerOn : AnswerForm → ℕ → List ℤ → Type 0
+IsAnswerOn form.Counts m numbers = (length numbers ≡ m) × All (λ z. pos 0 ≤ℤ z) numbers
+IsAnswerOn form.Walk m numbers = Unit {0}
 
 -- the items of a list are those from its offset up to the next
 pub record IsListAt (offsets items : List ℤ) (k : ℕ) (list : List ℤ) : Type 0 where

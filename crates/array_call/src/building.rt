@@ -1,15 +1,20 @@
 //! The document that the parts of numbers are.
-ghost use Rattle.std.specs.Prelude.{◌≡◌, ◌+◌, ◌<◌, ◌++◌, ◌∷◌, pos, ◌≤ℤ◌, length, map, All, []};
-ghost use Rattle.std.specs.Prelude.{true, if◌then◌else◌, IsTrue, IfOk, IfSome, OnOk};
+ghost use Rattle.std.specs.Prelude.{◌≡◌, ℕ, ◌+◌, ◌<◌, ◌≤◌, ◌++◌, ◌∷◌, ℤ, pos, ◌≤ℤ◌, List, length};
+ghost use Rattle.std.specs.Prelude.{map, All, [], true, false, if◌then◌else◌, None, IfOk, IfSome};
+ghost use Rattle.std.specs.Prelude.{OnOk};
 ghost use Rattle.mb_problem.specs.declared.kind.BestProof.TheVariants.{LighterBarrier, OuterPaths};
-ghost use Rattle.mb_problem.specs.Kinds.{are_duals, form_of, proof_of};
+ghost use Rattle.mb_problem.specs.Kinds.{are_duals, asks_conservative, form_of, proof_of};
 ghost use Rattle.doc_format.specs.Parts.{ascends};
 ghost use Rattle.doc_format.specs.Form.{AscendsBy};
 ghost use Rattle.doc_format.specs.Items.{is_item, item_number};
-ghost use Rattle.certificates.specs.Claims.{numbers};
+ghost use Rattle.doc_format.specs.declared.status.DocStatus.TheVariants.{Optimal};
+ghost use Rattle.doc_format.specs.declared.status.DocStatus.TheVariants.{NonConservative};
+ghost use Rattle.certificates.specs.Claims.{numbers, counts_of};
 ghost use Rattle.document_lines.specs.Lines.{is_used, line_at};
-ghost use Rattle.array_call.specs.Sheets.{IsCountOn, HasEdges, AreIn, HasItems, HasSizeFor};
-ghost use Rattle.array_call.specs.Sheets.{IsListAt};
+ghost use Rattle.array_call.specs.Sheets.{IsCountOn, HasEdges, AreIn, HasItems, IsAnswerOn};
+ghost use Rattle.array_call.specs.Sheets.{IsListAt, number_at, sheet_of};
+ghost use Rattle.array_call.specs.Layout.{answer_numbers, listed_members, set_list, walk_numbers};
+ghost use Rattle.array_call.specs.Documents.{HasLists, IsFound, StatesNumbers};
 
 use crate::parting::Parts;
 use doc_format::{
@@ -23,7 +28,8 @@ use std::alloc::Global;
 
 /// Whether no number is negative.
 fn are_natural(numbers: &[i64]) -> bool
-    ensures { IsTrue result → All (λ z. pos 0 ≤ℤ z) numbers.now }
+    ensures yes { result ≡ true → All (λ z. pos 0 ≤ℤ z) numbers.now }
+    ensures no { result ≡ false → All (λ z. pos 0 ≤ℤ z) numbers.now → ⊥ }
 {
     numbers.iter().all(|&number| number >= 0)
 }
@@ -53,6 +59,8 @@ fn count_lines(alloc: Global, counts: &[i64]) -> Result<Vec<CountLine>, OutOfMem
     requires natural { All (λ c. pos 0 ≤ℤ c) counts.now }
     ensures ascending { IfOk result (λ v. AscendsBy (λ x. x.edge) v.items) }
     ensures within { IfOk result (λ v. All (IsCountOn (length counts.now)) v.items) }
+    ensures counts { IfOk result
+        (λ v. map pos (counts_of v.items (length counts.now)) ≡ counts.now) }
 {
     let mut lines = Vec::new(alloc);
     for k in 0..counts.len() {
@@ -63,7 +71,9 @@ fn count_lines(alloc: Global, counts: &[i64]) -> Result<Vec<CountLine>, OutOfMem
 
 /// The `w` line of a walk, where it has an edge.
 fn walk_line(alloc: Global, start: i64, edges: &[i64]) -> Result<Option<WalkLine>, OutOfMemory>
-    ensures { IfOk result HasEdges }
+    ensures some { IfOk result HasEdges }
+    ensures edges { IfOk result (λ w. walk_numbers w ≡ edges.now) }
+    ensures start { IfOk result (λ o. IfSome o (λ w. w.start ≡ start)) }
 {
     if edges.is_empty() {
         return Ok(None);
@@ -135,7 +145,10 @@ fn set_line(alloc: Global, dual: i64, numbers: &[i64]) -> Result<SetLine, OutOfM
 
 /// The items of the list at a place, where the offsets are some of them.
 fn list_at<'a>(offsets: &[i64], items: &'a [i64], k: usize) -> Option<&'a [i64]>
-    ensures { IfSome result (λ list. IsListAt offsets.now items.now k list.now) }
+    ensures list { IfSome result (λ list. IsListAt offsets.now items.now k list.now) }
+    ensures none { result ≡ None → k + 1 < length offsets.now → (list : List ℤ)
+        → (at : IsListAt offsets.now items.now k list)
+        → at.first + at.size ≤ length items.now → ⊥ }
 {
     let first = *offsets.get(k)?;
     let last = *offsets.get(k + 1)?;
@@ -156,6 +169,10 @@ fn set_lines(alloc: Global, parts: &Parts<'_>) -> Result<Option<Vec<SetLine>>, O
     ensures duals { IfOk result (λ o. IfSome o
         (λ v. map (λ z. z.dual) v.items ≡ parts.now.leads.now)) }
     ensures items { IfOk result (λ o. IfSome o (λ v. All HasItems v.items)) }
+    ensures lists { IfOk result (λ o. IfSome o (λ v. (xss : List (List ℤ))
+        → HasLists (sheet_of parts.now) xss → map set_list v.items ≡ xss)) }
+    ensures none { IfOk result (λ o. o ≡ None → (xss : List (List ℤ))
+        → HasLists (sheet_of parts.now) xss → ⊥) }
 {
     let mut lines = Vec::with_capacity(alloc, parts.leads.len())?;
     for k in 0..parts.leads.len() {
@@ -182,8 +199,12 @@ fn path_line(alloc: Global, vertex: i64, edges: &[i64]) -> Result<PathLine, OutO
 
 /// The `r` lines of paths, where the offsets are some of their edges.
 fn path_lines(alloc: Global, parts: &Parts<'_>) -> Result<Option<Vec<PathLine>>, OutOfMemory>
-    ensures { IfOk result (λ o. IfSome o
+    ensures vertices { IfOk result (λ o. IfSome o
         (λ v. map (λ r. r.vertex) v.items ≡ parts.now.leads.now)) }
+    ensures lists { IfOk result (λ o. IfSome o (λ v. (xss : List (List ℤ))
+        → HasLists (sheet_of parts.now) xss → map (λ r. r.edges) v.items ≡ xss)) }
+    ensures none { IfOk result (λ o. o ≡ None → (xss : List (List ℤ))
+        → HasLists (sheet_of parts.now) xss → ⊥) }
 {
     let mut lines = Vec::with_capacity(alloc, parts.leads.len())?;
     for k in 0..parts.leads.len() {
@@ -217,8 +238,11 @@ fn answer_lines(
     start: i64,
     answer: &[i64],
 ) -> Result<AnswerLines, OutOfMemory>
-    requires natural { All (λ c. pos 0 ≤ℤ c) answer.now }
-    ensures { IfOk result (λ l. AreIn form (length answer.now) l.counts.items l.walk) }
+    requires answer { IsAnswerOn form (length answer.now) answer.now }
+    ensures form { IfOk result (λ l. AreIn form (length answer.now) l.counts.items l.walk) }
+    ensures numbers { IfOk result
+        (λ l. StatesNumbers form (length answer.now) l.counts.items l.walk answer.now) }
+    ensures start { IfOk result (λ l. IfSome l.walk (λ w. w.start ≡ start)) }
 {
     match form {
         AnswerForm::Counts => Ok(AnswerLines {
@@ -232,12 +256,26 @@ fn answer_lines(
     }
 }
 
-/// Whether an answer of this form and size is one on `m` edges.
-fn has_size(form: AnswerForm, size: usize, m: usize) -> bool
-    ensures { IsTrue result → HasSizeFor form size m }
+/// Whether numbers are counts of `m` edges.
+fn are_counts(numbers: &[i64], m: usize) -> bool
+    ensures yes { result ≡ true
+        → (length numbers.now ≡ m) × All (λ z. pos 0 ≤ℤ z) numbers.now }
+    ensures no { result ≡ false
+        → (length numbers.now ≡ m) × All (λ z. pos 0 ≤ℤ z) numbers.now → ⊥ }
+{
+    if numbers.len() != m {
+        return false;
+    }
+    are_natural(numbers)
+}
+
+/// Whether numbers are an answer of this form on `m` edges: counts, or the edges of any walk.
+fn is_answer(form: AnswerForm, numbers: &[i64], m: usize) -> bool
+    ensures yes { result ≡ true → IsAnswerOn form m numbers.now }
+    ensures no { result ≡ false → IsAnswerOn form m numbers.now → ⊥ }
 {
     match form {
-        AnswerForm::Counts => size == m,
+        AnswerForm::Counts => are_counts(numbers, m),
         AnswerForm::Walk => true,
     }
 }
@@ -251,12 +289,19 @@ fn optimal(
     sets: Vec<SetLine>,
 ) -> Result<Document, OutOfMemory>
     requires duals { are_duals (proof_of kind) ≡ true }
-    requires natural { All (λ c. pos 0 ≤ℤ c) parts.now.answer.now }
-    requires size { HasSizeFor (form_of kind) (length parts.now.answer.now) m }
+    requires answer { IsAnswerOn (form_of kind) m parts.now.answer.now }
     requires head { length parts.now.head.now ≡ 8 }
     requires items { All HasItems sets.items }
     ensures kind { IfOk result (λ d. d.kind ≡ kind) }
     ensures counts { IfOk result (λ d. All (IsCountOn m) d.counts) }
+    ensures status { IfOk result (λ d. d.status ≡ Optimal) }
+    ensures weight { IfOk result (λ d. d.weight ≡ number_at parts.now.head.now 1) }
+    ensures answer { IfOk result
+        (λ d. answer_numbers (form_of kind) m d ≡ parts.now.answer.now) }
+    ensures start { IfOk result
+        (λ d. IfSome d.walk (λ w. w.start ≡ number_at parts.now.head.now 2)) }
+    ensures duals { IfOk result (λ d. map (λ y. y.dual) d.duals ≡ parts.now.duals.now) }
+    ensures sets { IfOk result (λ d. d.sets ≡ sets.items) }
 {
     let answer = answer_lines(alloc, kind.form(), parts.head[2], parts.answer)?;
     let duals = Sequence::from_vec(dual_lines(alloc, parts.duals)?);
@@ -278,34 +323,34 @@ fn optimal(
 }
 
 /// The document of what excludes all answers, if its members ascend and the kind has one.
-fn infeasible(alloc: Global, kind: Kind, members: &[i64]) -> Result<Option<Document>, OutOfMemory>
+fn infeasible(alloc: Global, kind: Kind, parts: &Parts<'_>) -> Result<Option<Document>, OutOfMemory>
+    requires status { number_at parts.now.head.now 0 ≡ pos 2 }
     ensures kind { IfOk result (λ o. IfSome o (λ d. d.kind ≡ kind)) }
     ensures counts { IfOk result (λ o. IfSome o (λ d. d.counts ≡ [])) }
+    ensures found { (m : ℕ) → IfOk result (IsFound kind m (sheet_of parts.now)) }
 {
     if kind.exclusion() == Exclusion::Never {
         return Ok(None);
     }
-    if !is_ascending(members) {
+    if !is_ascending(parts.excluding) {
         return Ok(None);
     }
-    let line = member_line(alloc, members)?;
+    let line = member_line(alloc, parts.excluding)?;
     Ok(Some(infeasible_by(alloc, kind, line)?))
 }
 
-/// The document of a circuit, if the kind asks for conservative weights.
-fn nonconservative(
-    alloc: Global,
-    kind: Kind,
-    start: i64,
-    edges: &[i64],
-) -> Result<Option<Document>, OutOfMemory>
-    ensures kind { IfOk result (λ o. IfSome o (λ d. d.kind ≡ kind)) }
-    ensures counts { IfOk result (λ o. IfSome o (λ d. d.counts ≡ [])) }
+/// The document of a circuit of negative weight.
+fn circuit(alloc: Global, kind: Kind, parts: &Parts<'_>) -> Result<Document, OutOfMemory>
+    requires asks { asks_conservative kind ≡ true }
+    requires head { length parts.now.head.now ≡ 8 }
+    ensures kind { IfOk result (λ d. d.kind ≡ kind) }
+    ensures counts { IfOk result (λ d. d.counts ≡ []) }
+    ensures status { IfOk result (λ d. d.status ≡ NonConservative) }
+    ensures edges { IfOk result (λ d. walk_numbers d.walk ≡ parts.now.answer.now) }
+    ensures start { IfOk result
+        (λ d. IfSome d.walk (λ w. w.start ≡ number_at parts.now.head.now 2)) }
 {
-    if !kind.asks_conservative() {
-        return Ok(None);
-    }
-    let walk = walk_line(alloc, start, edges)?;
+    let walk = walk_line(alloc, parts.head[2], parts.answer)?;
     let head = Head {
         line: 1,
         status: DocStatus::NonConservative,
@@ -314,7 +359,25 @@ fn nonconservative(
     };
     let mut document = Document::new(alloc, head);
     document.walk = walk;
-    Ok(Some(document))
+    Ok(document)
+}
+
+/// The document of a circuit, if the kind asks for conservative weights.
+fn nonconservative(
+    alloc: Global,
+    kind: Kind,
+    parts: &Parts<'_>,
+) -> Result<Option<Document>, OutOfMemory>
+    requires head { length parts.now.head.now ≡ 8 }
+    requires status { number_at parts.now.head.now 0 ≡ pos 3 }
+    ensures kind { IfOk result (λ o. IfSome o (λ d. d.kind ≡ kind)) }
+    ensures counts { IfOk result (λ o. IfSome o (λ d. d.counts ≡ [])) }
+    ensures found { (m : ℕ) → IfOk result (IsFound kind m (sheet_of parts.now)) }
+{
+    if !kind.asks_conservative() {
+        return Ok(None);
+    }
+    Ok(Some(circuit(alloc, kind, parts)?))
 }
 
 /// The document of a best answer that duals prove, if its offsets are those of sets.
@@ -325,11 +388,12 @@ fn by_duals(
     parts: &Parts<'_>,
 ) -> Result<Option<Document>, OutOfMemory>
     requires duals { are_duals (proof_of kind) ≡ true }
-    requires natural { All (λ c. pos 0 ≤ℤ c) parts.now.answer.now }
-    requires size { HasSizeFor (form_of kind) (length parts.now.answer.now) m }
+    requires answer { IsAnswerOn (form_of kind) m parts.now.answer.now }
     requires head { length parts.now.head.now ≡ 8 }
+    requires status { number_at parts.now.head.now 0 ≡ pos 1 }
     ensures kind { IfOk result (λ o. IfSome o (λ d. d.kind ≡ kind)) }
     ensures counts { IfOk result (λ o. IfSome o (λ d. All (IsCountOn m) d.counts)) }
+    ensures found { IfOk result (IsFound kind m (sheet_of parts.now)) }
 {
     let Some(sets) = set_lines(alloc, parts)? else {
         return Ok(None);
@@ -337,24 +401,21 @@ fn by_duals(
     Ok(Some(optimal(alloc, kind, m, parts, sets)?))
 }
 
-/// The document of a best answer that a barrier of the graph of lighter edges proves, if its
-/// members ascend. It has a `u` line also if there are none.
-fn by_barrier(
-    alloc: Global,
-    kind: Kind,
-    m: usize,
-    parts: &Parts<'_>,
-) -> Result<Option<Document>, OutOfMemory>
+/// The document of a best answer that a barrier of the graph of lighter edges proves. It has a `u`
+/// line also if there are none.
+fn lightest(alloc: Global, kind: Kind, parts: &Parts<'_>) -> Result<Document, OutOfMemory>
     requires proof { proof_of kind ≡ LighterBarrier }
     requires natural { All (λ c. pos 0 ≤ℤ c) parts.now.answer.now }
-    requires size { HasSizeFor (form_of kind) (length parts.now.answer.now) m }
     requires head { length parts.now.head.now ≡ 8 }
-    ensures kind { IfOk result (λ o. IfSome o (λ d. d.kind ≡ kind)) }
-    ensures counts { IfOk result (λ o. IfSome o (λ d. All (IsCountOn m) d.counts)) }
+    requires barrier { ascends parts.now.excluding.now ≡ true }
+    ensures kind { IfOk result (λ d. d.kind ≡ kind) }
+    ensures counts { IfOk result (λ d. All (IsCountOn (length parts.now.answer.now)) d.counts) }
+    ensures status { IfOk result (λ d. d.status ≡ Optimal) }
+    ensures weight { IfOk result (λ d. d.weight ≡ number_at parts.now.head.now 1) }
+    ensures answer { IfOk result (λ d. map pos (counts_of d.counts (length parts.now.answer.now))
+        ≡ parts.now.answer.now) }
+    ensures barrier { IfOk result (λ d. listed_members d.barrier ≡ parts.now.excluding.now) }
 {
-    if !is_ascending(parts.excluding) {
-        return Ok(None);
-    }
     let counts = Sequence::from_vec(count_lines(alloc, parts.answer)?);
     let barrier = member_line(alloc, parts.excluding)?;
     let head = Head {
@@ -366,7 +427,29 @@ fn by_barrier(
     let mut document = Document::new(alloc, head);
     document.counts = counts;
     document.barrier = Some(barrier);
-    Ok(Some(document))
+    Ok(document)
+}
+
+/// The document of a best answer that a barrier of the graph of lighter edges proves, if its
+/// members ascend.
+fn by_barrier(
+    alloc: Global,
+    kind: Kind,
+    m: usize,
+    parts: &Parts<'_>,
+) -> Result<Option<Document>, OutOfMemory>
+    requires proof { proof_of kind ≡ LighterBarrier }
+    requires answer { IsAnswerOn (form_of kind) m parts.now.answer.now }
+    requires head { length parts.now.head.now ≡ 8 }
+    requires status { number_at parts.now.head.now 0 ≡ pos 1 }
+    ensures kind { IfOk result (λ o. IfSome o (λ d. d.kind ≡ kind)) }
+    ensures counts { IfOk result (λ o. IfSome o (λ d. All (IsCountOn m) d.counts)) }
+    ensures found { IfOk result (IsFound kind m (sheet_of parts.now)) }
+{
+    if !is_ascending(parts.excluding) {
+        return Ok(None);
+    }
+    Ok(Some(lightest(alloc, kind, parts)?))
 }
 
 /// The document of a best answer that paths prove, from each vertex of the `d` line, if these
@@ -385,6 +468,12 @@ fn greatest(
     requires paths { map (λ r. r.vertex) paths.items ≡ parts.now.leads.now }
     ensures kind { IfOk result (λ d. d.kind ≡ kind) }
     ensures counts { IfOk result (λ d. All (IsCountOn (length parts.now.answer.now)) d.counts) }
+    ensures status { IfOk result (λ d. d.status ≡ Optimal) }
+    ensures weight { IfOk result (λ d. d.weight ≡ number_at parts.now.head.now 1) }
+    ensures answer { IfOk result (λ d. map pos (counts_of d.counts (length parts.now.answer.now))
+        ≡ parts.now.answer.now) }
+    ensures border { IfOk result (λ d. listed_members d.barrier ≡ parts.now.excluding.now) }
+    ensures paths { IfOk result (λ d. d.paths ≡ paths.items) }
 {
     let counts = Sequence::from_vec(count_lines(alloc, parts.answer)?);
     let outer = member_line(alloc, parts.leads)?;
@@ -413,11 +502,12 @@ fn by_paths(
     parts: &Parts<'_>,
 ) -> Result<Option<Document>, OutOfMemory>
     requires proof { proof_of kind ≡ OuterPaths }
-    requires natural { All (λ c. pos 0 ≤ℤ c) parts.now.answer.now }
-    requires size { HasSizeFor (form_of kind) (length parts.now.answer.now) m }
+    requires answer { IsAnswerOn (form_of kind) m parts.now.answer.now }
     requires head { length parts.now.head.now ≡ 8 }
+    requires status { number_at parts.now.head.now 0 ≡ pos 1 }
     ensures kind { IfOk result (λ o. IfSome o (λ d. d.kind ≡ kind)) }
     ensures counts { IfOk result (λ o. IfSome o (λ d. All (IsCountOn m) d.counts)) }
+    ensures found { IfOk result (IsFound kind m (sheet_of parts.now)) }
 {
     if !is_ascending(parts.leads) {
         return Ok(None);
@@ -439,13 +529,12 @@ fn best(
     parts: &Parts<'_>,
 ) -> Result<Option<Document>, OutOfMemory>
     requires head { length parts.now.head.now ≡ 8 }
+    requires status { number_at parts.now.head.now 0 ≡ pos 1 }
     ensures kind { IfOk result (λ o. IfSome o (λ d. d.kind ≡ kind)) }
     ensures counts { IfOk result (λ o. IfSome o (λ d. All (IsCountOn m) d.counts)) }
+    ensures found { IfOk result (IsFound kind m (sheet_of parts.now)) }
 {
-    if !are_natural(parts.answer) {
-        return Ok(None);
-    }
-    if !has_size(kind.form(), parts.answer.len(), m) {
+    if !is_answer(kind.form(), parts.answer, m) {
         return Ok(None);
     }
     match kind.proof() {
@@ -466,11 +555,12 @@ pub fn document_of(
     requires head { length parts.now.head.now ≡ 8 }
     ensures kind { IfOk result (λ o. IfSome o (λ d. d.kind ≡ kind)) }
     ensures counts { IfOk result (λ o. IfSome o (λ d. All (IsCountOn m) d.counts)) }
+    ensures found { IfOk result (IsFound kind m (sheet_of parts.now)) }
 {
     match parts.head[0] {
         1 => best(alloc, kind, m, parts),
-        2 => infeasible(alloc, kind, parts.excluding),
-        3 => nonconservative(alloc, kind, parts.head[2], parts.answer),
+        2 => infeasible(alloc, kind, parts),
+        3 => nonconservative(alloc, kind, parts),
         _ => Ok(None),
     }
 }

@@ -1,4 +1,4 @@
-ghost use Rattle.std.specs.Prelude.{◌≡◌, length, true, false, All, IfOk, IfSome};
+ghost use Rattle.std.specs.Prelude.{◌≡◌, length, true, false, All, None, IfOk, IfSome};
 ghost use Rattle.graph_theory.specs.Limits.{IsWithinLimits};
 ghost use Rattle.mb_problem.specs.Kinds.{form_of};
 ghost use Rattle.mb_problem.specs.Ready.{IsReady};
@@ -8,6 +8,7 @@ ghost use Rattle.array_call.specs.Layout.{numbers_for};
 ghost use Rattle.array_call.specs.Made.{IsFaultless};
 ghost use Rattle.array_call.specs.Sheets.{IsCountOn};
 ghost use Rattle.array_call.specs.Checks.{IsOfNumbers, HasVerdict, Checks};
+ghost use Rattle.doc_format.specs.declared.document.Document.{Document};
 
 use crate::arrays::InstanceArrays;
 use crate::building::document_of;
@@ -25,7 +26,8 @@ use std::alloc::Global;
 /// Whether two lists of numbers of the same length are the same.
 fn are_same(own: &[i64], numbers: &[i64]) -> bool
     requires { length own.now ≡ length numbers.now }
-    ensures { result ≡ true → own.now ≡ numbers.now }
+    ensures yes { result ≡ true → own.now ≡ numbers.now }
+    ensures no { result ≡ false → own.now ≡ numbers.now → ⊥ }
 {
     for k in 0..own.len() {
         if own[k] != numbers[k] {
@@ -44,8 +46,10 @@ fn is_laid(
     numbers: &[i64],
 ) -> Result<bool, OutOfMemory>
     requires { All (IsCountOn m) document.now.counts }
-    ensures { IfOk result (λ b. b ≡ true
+    ensures yes { IfOk result (λ b. b ≡ true
         → numbers.now ≡ numbers_for false (form_of kind) m document.now) }
+    ensures no { IfOk result (λ b. b ≡ false
+        → numbers.now ≡ numbers_for false (form_of kind) m document.now → ⊥) }
 {
     let own = numbers_of(alloc, kind, m, false, document)?;
     if own.len() != numbers.len() {
@@ -64,6 +68,8 @@ fn document_in(
     ensures own { IfOk result (λ o. IfSome o
         (λ d. numbers.now ≡ numbers_for false (form_of kind) m d)) }
     ensures kind { IfOk result (λ o. IfSome o (λ d. d.kind ≡ kind)) }
+    ensures none { IfOk result (λ o. o ≡ None → (d : Document) → d.kind ≡ kind
+        → numbers.now ≡ numbers_for false (form_of kind) m d → ⊥) }
 {
     let Some(parts) = parted(numbers) else {
         return Ok(None);
@@ -71,13 +77,11 @@ fn document_in(
     let Some(document) = document_of(alloc, kind, m, &parts)? else {
         return Ok(None);
     };
-    let laid = is_laid(alloc, kind, m, &document, numbers);
-    if let Ok(true) = laid {
-        return Ok(Some(document));
+    match is_laid(alloc, kind, m, &document, numbers) {
+        Ok(true) => Ok(Some(document)),
+        Ok(false) => Ok(None),
+        Err(error) => Err(error),
     }
-    drop(document);
-    laid?;
-    Ok(None)
 }
 
 /// The first rule that the document of numbers breaks; none if it proves what it states.
@@ -147,7 +151,7 @@ fn check_instance(
 
 /// Judges the numbers of an answer for the instance that arrays are: no rule if they are those of a
 /// document that proves what it states (`cert_check::judge`), else the first rule that it breaks;
-/// `DocForm` where the numbers aren't a document's.
+/// `DocForm` exactly if the numbers aren't those of a document of the kind.
 pub fn check_arrays(
     alloc: Global,
     kind: Kind,
@@ -155,8 +159,8 @@ pub fn check_arrays(
     numbers: &[i64],
 ) -> Result<Option<DocRule>, ArrayError>
     // Numbers are accepted only if they are those of a document that proves what it states of
-    // exactly this instance; else `DocForm`, or the first rule that it breaks, a fault of the
-    // arrays, a size past a limit, or that memory ran out.
+    // exactly this instance; else the first rule that it breaks, `DocForm` exactly if no document of
+    // the kind has the numbers, a fault of the arrays, a size past a limit, or that memory ran out.
     ensures { Checks kind (arrays_of arrays.now) numbers.now result }
 {
     let instance = instance_of(alloc, kind, arrays)?;

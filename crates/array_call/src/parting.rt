@@ -1,11 +1,12 @@
 //! The parts of the numbers of an answer.
-ghost use Rattle.std.specs.Prelude.{◌≡◌, ◌+◌, ◌++◌, pos, length, IfSome};
-ghost use Rattle.array_call.specs.Sheets.{IsParted, number_at, sheet_of};
+ghost use Rattle.std.specs.Prelude.{◌≡◌, ◌+◌, ◌++◌, ◌⊎◌, ◌<ℤ◌, ℤ, List, pos, length, IfSome, None};
+ghost use Rattle.array_call.specs.Sheets.{Sheet, IsListed, IsParted, number_at, sheet_of};
 
 /// The first numbers, so many, and the others.
 fn split(numbers: &[i64], count: i64) -> Option<(&[i64], &[i64])>
     ensures count { IfSome result (λ r. pos (length r.0.now) ≡ count) }
     ensures whole { IfSome result (λ r. numbers.now ≡ r.0.now ++ r.1.now) }
+    ensures none { result ≡ None → (count <ℤ pos 0) ⊎ (pos (length numbers.now) <ℤ count) }
 {
     if count < 0 || count as u64 > numbers.len() as u64 {
         return None;
@@ -44,6 +45,8 @@ fn listed<'a>(
     ensures excluding { IfSome result (λ r. number_at head.now 7 ≡ pos (length r.2.now)) }
     ensures whole { IfSome result
         (λ r. rest.now ≡ r.0.now ++ (r.1.now ++ (r.2.now ++ r.3.now))) }
+    ensures none { result ≡ None → (offsets items excluding : List ℤ)
+        → IsListed head.now (length leads.now) rest.now offsets items excluding → ⊥ }
 {
     let (offsets, rest) = split(rest, leads.len() as i64 + 1)?;
     let (items, rest) = split(rest, head[6])?;
@@ -53,7 +56,8 @@ fn listed<'a>(
 
 /// The parts, by the lengths that the first numbers say.
 pub fn parted(numbers: &[i64]) -> Option<Parts<'_>>
-    ensures { IfSome result (λ p. IsParted numbers.now (sheet_of p)) }
+    ensures parts { IfSome result (λ p. IsParted numbers.now (sheet_of p)) }
+    ensures none { result ≡ None → (s : Sheet) → IsParted numbers.now s → ⊥ }
 {
     let (head, rest) = split(numbers, 8)?;
     let (answer, rest) = split(rest, head[3])?;

@@ -4,4 +4,5 @@ mod Loose
 mod Places
 mod Differing
 mod Greatest
+mod LeastWeights
 mod Ranges

@@ -1,10 +1,12 @@
 -- The graph of chosen edges, and that of the edges that are lighter than some weight.
-use Rattle.mb_problem.proofs.Common.{◌≡◌, ℕ, zero, suc, ◌+◌, ◌-◌, ◌<◌, ◌≤◌, ℤ, ◌≤ℤ◌, Bool, true, false, refl, ap, sym, ◌∙◌, subst, inr, arith, List}
+use Rattle.mb_problem.proofs.Common.{◌≡◌, ℕ, ◌+◌, ◌-◌, ◌<◌, ℤ, ◌≤ℤ◌, Bool, true, false, refl, ap, sym, ◌∙◌, subst, inr, arith, List}
 use Rattle.mb_problem.proofs.Common.{pos, ◌++◌, map, take, [], ◌∷◌, length, get_or, slice_index, All, int_lt, length-map, get_or-map, length-filter, count_by-le-length}
 use Rattle.mb_problem.proofs.Common.{All-head, All-tail, All-filter, filter_passes, Edge, Multigraph, HasNoLoop, IsEdgeNumber, IsGraph, IsEdgeWithin, IsWeight, is_loop, edge_of, no_edge}
-use Rattle.mb_problem.proofs.Common.{holds, IsBarrier, holds_place, edge_of-place, number_of-place, barrier_excludes, IsTwin, HasTwin, kept_from as stood_at, kept_at, map_more}
+use Rattle.mb_problem.proofs.Common.{cases_Bool, inl, touches, touches-twin, holds, IsBarrier, holds_place}
+use Rattle.mb_problem.proofs.Common.{edge_of-place, number_of-place, barrier_excludes, IsTwin, HasTwin, kept_from as stood_at, kept_at, map_more}
 use Rattle.gadget_base.proofs.Common.{IsPerfectList, lighter_than, times_each, perfect_from_list}
 use Rattle.bottleneck.specs.Halving.{weightless, chosen, numbers_in, AreLight}
+use Rattle.bottleneck.proofs.Loose.{IsLoose}
 use Rattle.bottleneck.proofs.Twins.{AreTwins, barrier-twin, perfect-twin, twins-of}
 
 chosen-place : (g : Multigraph) (numbers : List ℕ) (e : ℕ) → IsEdgeNumber (chosen g numbers) e → e - 1 < length numbers
@@ -108,12 +110,17 @@ lighter-of g w f is =
       light = ap (λ (x : Edge). int_lt x.w w) same ∙ filter_passes (λ x. int_lt x.w w) g.edges (f - 1) no_edge b;
     }
 
-pub no_number : (m : ℕ) → ((1 ≤ m) → ⊥) → m ≡ 0
-no_number zero h = refl
-no_number (suc m) h = absurd (h (omega arith))
-
-pub lighter-none : (g : Multigraph) (w : ℤ) → ((e : ℕ) → IsEdgeNumber g e → int_lt (edge_of g e).w w ≡ true → ⊥) → length (lighter_than w g).edges ≡ 0
-lighter-none g w none = no_number (length (lighter_than w g).edges) (λ h. (let first = lighter-of g w 1 (omega arith, h) in none first.number first.twin.is_edge first.light))
+-- no lighter edge has an end at a vertex whose edges aren't lighter
+pub lighter-loose : (g : Multigraph) (w : ℤ) (v : ℕ) → ((e : ℕ) → IsEdgeNumber g e → touches (edge_of g e) v ≡ true → int_lt (edge_of g e).w w ≡ true → ⊥)
+    → IsLoose (lighter_than w g) v
+lighter-loose g w v none f is =
+    elim (cases_Bool (touches (edge_of (lighter_than w g) f) v)) [
+      | inl on ↦ absurd (
+          let there = lighter-of g w f is in
+          let same = touches-twin (edge_of (lighter_than w g) f) (edge_of g there.number) v there.twin.u there.twin.v in
+          none there.number there.twin.is_edge (same ∙ on) there.light)
+      | inr off ↦ off
+    ]
 
 -- where the edges of at most w are those that are lighter than x, a barrier of the former is one of the latter
 pub bars-lighter : (g : Multigraph) (w x : ℤ) (numbers set : List ℕ) → AreLight g w (length g.edges) numbers
@@ -145,19 +152,24 @@ bars-whole g w numbers set are all =
       back = λ e is. inr (held-twin g numbers e (are.whole e is.0 is.1 (all e is)));
     }
 
+-- the lighter edges make a graph
+pub lighter-graph : (g : Multigraph) (w : ℤ) → IsGraph g → IsGraph (lighter_than w g)
+lighter-graph g w good =
+    let p : Edge → Bool = λ x. int_lt x.w w in
+    record {
+      few_vertices = good.few_vertices;
+      few_edges = omega (arith, good.few_edges, length-filter p g.edges, count_by-le-length p g.edges);
+      ends = All-filter p (IsEdgeWithin g.vertices) g.edges good.ends;
+      weights = All-filter p (λ x. IsWeight x.w) g.edges good.weights;
+    }
+
 -- a barrier of the lighter edges excludes perfect matchings of lighter edges
 pub not_all_lighter : (g : Multigraph) (w : ℤ) (set es : List ℕ) → IsGraph g → HasNoLoop g → IsBarrier (lighter_than w g) set → IsPerfectList g es
     → All (λ e. int_lt (edge_of g e).w w ≡ true) es → ⊥
 not_all_lighter g w set es good plain barrier perfect light =
     let h = lighter_than w g in
     let p : Edge → Bool = λ x. int_lt x.w w in
-    let ends = All-filter p (IsEdgeWithin g.vertices) g.edges good.ends in
-    let graph : IsGraph h = record {
-      few_vertices = good.few_vertices;
-      few_edges = omega (arith, good.few_edges, length-filter p g.edges, count_by-le-length p g.edges);
-      ends = ends;
-      weights = All-filter p (λ x. IsWeight x.w) g.edges good.weights;
-    } in
+    let graph : IsGraph h = lighter-graph g w good in
     let list = twins-of g h es (λ k d b. lighter-twin g w (get_or es k d) (perfect.numbers k d b) (light k d b)) in
-    let there = perfect_from_list h list.0 ends (All-filter p (λ x. is_loop x ≡ false) g.edges plain) (perfect-twin g h es list.0 refl list.1 perfect) in
+    let there = perfect_from_list h list.0 graph.ends (All-filter p (λ x. is_loop x ≡ false) g.edges plain) (perfect-twin g h es list.0 refl list.1 perfect) in
     barrier_excludes h set (times_each h list.0) graph barrier there

@@ -42,12 +42,18 @@ module _ (g : Multigraph) (ws : List ℤ) (are : AreWeights g ws) where
       let p = place_of e is in
       subst (λ (z : ℤ). z ≤ℤ weight_at ws t) p.2 (rises p.0 t (omega (arith, last, p.1)) (omega (arith, last)))
 
-  pub none-before : (e : ℕ) → IsEdgeNumber g e → int_lt (edge_of g e).w (weight_at ws 0) ≡ true → ⊥
-  none-before e is h =
+  -- before a place up to which all weights are below a bound no weight keeps the bound
+  pub none-before : (t e : ℕ) (bound : ℤ) → IsEdgeNumber g e → ((p : ℕ) → p < t → int_lt (weight_at ws p) bound ≡ true) → bound ≤ℤ (edge_of g e).w
+      → (t < length ws → int_lt (edge_of g e).w (weight_at ws t) ≡ true) → t ≤ length ws → ⊥
+  none-before t e bound is below keeps light few =
       let p = place_of e is in
-      let less = lt-below (edge_of g e).w (weight_at ws 0) h in
-      let up = rises 0 p.0 (omega arith) p.1 in
-      absurd (omega (arith, ints, up, less, p.2))
+      elim (cases_lt p.0 t) [
+        | inl before ↦ let less = lt-below (weight_at ws p.0) bound (below p.0 before) in absurd (omega (arith, ints, less, keeps, p.2))
+        | inr from ↦
+            let less = lt-below (edge_of g e).w (weight_at ws t) (light (omega (arith, from, p.1))) in
+            let up = rises t p.0 from p.1 in
+            absurd (omega (arith, ints, up, less, p.2))
+      ]
 
 -- one light edge more
 pub light-push : (g : Multigraph) (w : ℤ) (k : ℕ) (numbers : List ℕ) → IsEdgeNumber g (k + 1) → (edge_of g (k + 1)).w ≤ℤ w → AreLight g w k numbers

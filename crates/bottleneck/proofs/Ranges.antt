@@ -1,6 +1,7 @@
 -- What halving keeps, and what it ends with.
 use Rattle.mb_problem.proofs.Common.{◌≡◌, ◌≢◌, ℕ, zero, suc, ◌+◌, ◌-◌, ◌*◌, ◌/◌, ◌^◌, ◌<◌, ◌≤◌, ℤ, ◌≤ℤ◌, false, ap, sym, ◌∙◌}
-use Rattle.mb_problem.proofs.Common.{subst, inl, inr, arith, List, [], length, int_lt, ints, cases_lt, lt-ltb, le-ltb, mul-le-mul_left, length-map, All-nil, Multigraph, IsGraph, HasNoLoop}
+use Rattle.mb_problem.proofs.Common.{subst, inl, inr, arith, List, [], length, int_lt, ints, cases_lt}
+use Rattle.mb_problem.proofs.Common.{cases_Bool, touches, lt-ltb, le-ltb, mul-le-mul_left, length-map, All-nil, Multigraph, IsGraph, HasNoLoop}
 use Rattle.mb_problem.proofs.Common.{IsEdgeNumber, edge_of, IsVertexSet, IsBarrier, holds_all, IsWithinLimits, heaviest, Network, IsNetwork, vertices, plain_graph, size_of, link_count}
 use Rattle.gadget_base.proofs.Common.{IsPerfectList, lighter_than, times_each, plain-length, links-few}
 use Rattle.mb_problem.specs.declared.kind.Kind.TheVariants.{Bottleneck as BottleneckKind}
@@ -10,19 +11,23 @@ use Rattle.bottleneck.specs.declared.found.Bottleneck.TheVariants.{Best}
 use Rattle.bottleneck.specs.declared.range.Range.{Range}
 use Rattle.bottleneck.specs.declared.range.Found.{Found}
 use Rattle.bottleneck.specs.declared.range.Found.TheVariants.{Matching, Barrier}
-use Rattle.bottleneck.specs.Halving.{AreLight, AreWeights, weight_at, weightless, chosen, numbers_in, BarsBelow, IsUpTo, IsRange, IsFound, narrowed, told, IsHalf}
+use Rattle.bottleneck.specs.Halving.{AreLight, AreWeights, weight_at, weightless, chosen, numbers_in, BarsBelow, IsUpTo, IsRange, IsStart, IsFound, narrowed, told, IsNarrowed}
 use Rattle.bottleneck.specs.Thresholds.{IsThreshold}
-use Rattle.bottleneck.proofs.Parts.{no_number, lighter-none, chosen-numbers, chosen-perfect, chosen-all, bars-lighter, bars-whole, not_all_lighter}
-use Rattle.bottleneck.proofs.Loose.{edgeless-barrier}
+use Rattle.bottleneck.proofs.Parts.{lighter-loose, lighter-graph, chosen-numbers, chosen-perfect, chosen-all, bars-lighter, bars-whole, not_all_lighter}
+use Rattle.bottleneck.proofs.Loose.{loose-barrier}
 use Rattle.bottleneck.proofs.Places.{up_to-next, next-up_to, up_to-last, none-before}
 use Rattle.bottleneck.proofs.Greatest.{listed-heaviest, all_or_one}
 
--- before the first weight there is no edge
-bars_start : (g : Multigraph) (ws : List ℤ) → AreWeights g ws → g.vertices ≢ 0 → BarsBelow g ws 0 []
-bars_start g ws are some = record {
+-- the edges at some vertex aren't lighter than the weight at the place where halving starts
+bars_start : (g : Multigraph) (ws : List ℤ) (t : ℕ) → IsGraph g → AreWeights g ws → IsStart g ws t → BarsBelow g ws t []
+bars_start g ws t good are at = record {
   vertex_set = record { ascending = λ k b. absurd (omega (arith, b)); in_range = All-nil (λ v. (1 ≤ v) × (v ≤ g.vertices)) };
-  lighter = λ b. edgeless-barrier (lighter_than (weight_at ws 0) g) (lighter-none g (weight_at ws 0) (λ e is h. none-before g ws are e is h)) some;
-  whole = λ none. edgeless-barrier g (no_number (length g.edges) (λ h. let there = are.whole 1 (omega arith, h) in absurd (omega (arith, none, there.1)))) some;
+  lighter = λ b. loose-barrier (lighter_than (weight_at ws t) g) at.vertex (lighter-graph g (weight_at ws t) good)
+      (lighter-loose g (weight_at ws t) at.vertex (λ e is on light. none-before g ws are t e at.bound is at.below (at.least e is on) (λ _. light) at.few)) at.low at.high;
+  whole = λ last. loose-barrier g at.vertex good (λ e is. elim (cases_Bool (touches (edge_of g e) at.vertex)) [
+    | inl on ↦ absurd (none-before g ws are t e at.bound is at.below (at.least e is on) (λ b. absurd (omega (arith, b, last))) at.few)
+    | inr off ↦ off
+  ]) at.low at.high;
 }
 
 -- a barrier of the edges up to a place
@@ -42,27 +47,26 @@ up_to g ws t numbers es light perfect = record {
   light = chosen-all (λ e. (edge_of g e).w ≤ℤ weight_at ws t) g numbers es (λ k d b. (light.each k d b).1) perfect.numbers;
 }
 
--- a search among the edges up to the middle halves a range
-pub halved : (g : Multigraph) (ws : List ℤ) (numbers : List ℕ) (r : Range) (middle : ℕ) (found : Found) → AreWeights g ws → IsRange g ws r → r.low < r.high
-    → middle ≡ r.low + (r.high - r.low) / 2 → AreLight g (weight_at ws middle) (length g.edges) numbers → IsFound (chosen g numbers) numbers found
-    → IsHalf g ws r (narrowed middle found r)
-halved g ws numbers r middle (Matching edges) are range more is light found = record {
+-- a search among the edges up to a place narrows a range
+pub narrows : (g : Multigraph) (ws : List ℤ) (numbers : List ℕ) (r : Range) (place : ℕ) (found : Found) → AreWeights g ws → IsRange g ws r → r.low ≤ place → place < r.high
+    → AreLight g (weight_at ws place) (length g.edges) numbers → IsFound (chosen g numbers) numbers found → IsNarrowed g ws place r (narrowed place found r)
+narrows g ws numbers r place (Matching edges) are range low high light found = record {
   range = record {
-    order = omega (arith, is);
-    end = omega (arith, is, more, range.end);
+    order = low;
+    end = omega (arith, high, range.end);
     bars = range.bars;
-    matched = λ b. subst (IsUpTo g ws middle) (sym found.2) (up_to g ws middle numbers found.0 light found.1);
+    matched = λ b. subst (IsUpTo g ws place) (sym found.2) (up_to g ws place numbers found.0 light found.1);
   };
-  half = omega (arith, is);
+  narrow = λ most before after. before;
 }
-halved g ws numbers r middle (Barrier set) are range more is light found = record {
+narrows g ws numbers r place (Barrier set) are range low high light found = record {
   range = record {
-    order = omega (arith, is, more);
+    order = omega (arith, high);
     end = range.end;
-    bars = bars_next g ws middle numbers set.items are light found.0 found.1;
+    bars = bars_next g ws place numbers set.items are light found.0 found.1;
     matched = range.matched;
   };
-  half = omega (arith, is, more);
+  narrow = λ most before after. after;
 }
 
 not_lighter : (a w : ℤ) → a ≤ℤ w → int_lt a w ≡ false → a ≡ w
@@ -80,14 +84,13 @@ tight g ws t es set good plain up barrier =
           listed-heaviest g es w one.0 up.light one.1 (holds_all (IsEdgeNumber g) es one.0 up.perfect.numbers one.1) (not_lighter (edge_of g one.0).w w most one.2)
     ]
 
--- the places of all weights
-pub whole : (i : Network) (g : Multigraph) (ws : List ℤ) (r : Range) → g ≡ plain_graph i → vertices i ≢ 0 → AreWeights g ws → r.low ≡ 0 → r.high ≡ length ws
-    → r.barrier.items ≡ []
+-- the places from a start on
+pub started : (g : Multigraph) (ws : List ℤ) (r : Range) (t : ℕ) → IsGraph g → AreWeights g ws → IsStart g ws t → r.low ≡ t → r.high ≡ length ws → r.barrier.items ≡ []
     → IsRange g ws r
-whole i g ws r same some are low high none = record {
-  order = omega (arith, low);
+started g ws r t good are at low high none = record {
+  order = omega (arith, low, high, at.few);
   end = omega (arith, high);
-  bars = rw (low, none) (bars_start g ws are (subst (λ (h : Multigraph). h.vertices ≢ 0) (sym same) some));
+  bars = rw (low, none) (bars_start g ws t good are at);
   matched = λ b. absurd (omega (arith, b, high));
 }
 
@@ -143,25 +146,26 @@ pub record IsHalving (g : Multigraph) (ws : List ℤ) (r : Range) (start steps m
   pub range : IsRange g ws r
   pub left : ℕ
   pub small : r.high - r.low < 2 ^ left
-  pub paid : steps + left * most ≤ start + 17 * most
+  pub paid : steps + left * most ≤ start + 16 * most
 
-pub halving_start : (g : Multigraph) (ws : List ℤ) (r : Range) (start most : ℕ) → IsRange g ws r → r.high ≤ EDGE_LIMIT → IsHalving g ws r start start most
-halving_start g ws r start most range few = record { range = range; left = 17; small = omega (arith, few); paid = omega arith }
+pub halving_start : (g : Multigraph) (ws : List ℤ) (r : Range) (start most : ℕ) → IsRange g ws r → r.high - r.low < 2 ^ 16 → IsHalving g ws r start start most
+halving_start g ws r start most range few = record { range = range; left = 16; small = few; paid = omega arith }
 
 -- one search more, and at most half the width
-halving_step : (old new start before after most left : ℕ) → old < 2 ^ left → before + left * most ≤ start + 17 * most → 1 ≤ old → 2 * new ≤ old → after ≤ before + most
-    → (k : ℕ) × (new < 2 ^ k) × (after + k * most ≤ start + 17 * most)
+halving_step : (old new start before after most left : ℕ) → old < 2 ^ left → before + left * most ≤ start + 16 * most → 1 ≤ old → 2 * new ≤ old → after ≤ before + most
+    → (k : ℕ) × (new < 2 ^ k) × (after + k * most ≤ start + 16 * most)
 halving_step old new start before after most zero small paid some half once = absurd (omega (arith, small, some))
 halving_step old new start before after most (suc k) small paid some half once = (k, omega (arith, small, half), omega (arith, paid, once))
 
-pub halving_more : (g : Multigraph) (ws : List ℤ) (old new : Range) (start before after most : ℕ) → IsHalving g ws old start before most → old.low < old.high → IsHalf g ws old new
-    → after ≤ before + most → IsHalving g ws new start after most
-halving_more g ws old new start before after most is more half once =
-    let step = halving_step (old.high - old.low) (new.high - new.low) start before after most is.left is.small is.paid (omega (arith, more)) half.half once in
-    record { range = half.range; left = step.0; small = step.1; paid = step.2 }
+pub halving_more : (g : Multigraph) (ws : List ℤ) (old new : Range) (middle start before after most : ℕ) → IsHalving g ws old start before most → old.low < old.high
+    → middle ≡ old.low + (old.high - old.low) / 2 → IsNarrowed g ws middle old new → after ≤ before + most → IsHalving g ws new start after most
+halving_more g ws old new middle start before after most is more at narrowed once =
+    let width = narrowed.narrow ((old.high - old.low) / 2) (omega (arith, at)) (omega (arith, at, more)) in
+    let step = halving_step (old.high - old.low) (new.high - new.low) start before after most is.left is.small is.paid (omega (arith, more)) (omega (arith, width)) once in
+    record { range = narrowed.range; left = step.0; small = step.1; paid = step.2 }
 
 pub halving_once : (g : Multigraph) (ws : List ℤ) (r : Range) (start before after most : ℕ) → IsHalving g ws r start before most → r.low < r.high → after ≤ before + most
-    → after ≤ start + 17 * most
+    → after ≤ start + 16 * most
 halving_once g ws r start before after most is more once =
     let step = halving_step (r.high - r.low) 0 start before after most is.left is.small is.paid (omega (arith, more)) (omega arith) once in
     omega (arith, step.2)

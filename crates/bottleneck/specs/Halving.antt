@@ -1,10 +1,10 @@
 -- Halving over the different weights of the edges of a graph. No public clause cites this module.
-use Rattle.std.specs.Prelude.{◌≡◌, ℕ, ◌+◌, ◌-◌, ◌*◌, ◌<◌, ◌≤◌, ℤ, pos, ◌≤ℤ◌, int_lt}
+use Rattle.std.specs.Prelude.{◌≡◌, ℕ, ◌+◌, ◌-◌, ◌<◌, ◌≤◌, ℤ, pos, ◌≤ℤ◌, int_lt}
 use Rattle.std.specs.Prelude.{nat_lt, true, List, length, map, All, slice_index, slice_index_or}
 use Rattle.std.specs.Prelude.{if◌then◌else◌}
 use Rattle.std.specs.List.{AllPairs, Contains}
 use Rattle.graph_theory.specs.declared.edge.Edge.{Edge}
-use Rattle.graph_theory.specs.Graph.{Multigraph, IsEdgeNumber, edge_of}
+use Rattle.graph_theory.specs.Graph.{Multigraph, IsEdgeNumber, edge_at, edge_of, touches}
 use Rattle.graph_theory.specs.Parts.{holds, IsVertexSet}
 use Rattle.graph_theory.specs.Barrier.{IsBarrier}
 use Rattle.gadget_base.specs.Certified.{IsPerfectList}
@@ -43,6 +43,26 @@ pub record AreWeights (g : Multigraph) (weights : List ℤ) : Type 0 where
 abbrev pub weight_at : List ℤ → ℕ → ℤ
 weight_at weights place = slice_index_or weights place (pos 0)
 
+-- the first k edges weigh no less than what stands at their ends
+abbrev pub AreLeast : Multigraph → ℕ → List ℤ → Type 0
+AreLeast g k least = (j : ℕ) → j < k → (weight_at least (edge_at g j).u ≤ℤ (edge_at g j).w)
+    × (weight_at least (edge_at g j).v ≤ℤ (edge_at g j).w)
+
+-- the edges at a vertex weigh no less than this
+abbrev pub IsLeastAt : Multigraph → ℕ → ℤ → Type 0
+IsLeastAt g v bound = (e : ℕ) → IsEdgeNumber g e → touches (edge_of g e) v ≡ true
+    → bound ≤ℤ (edge_of g e).w
+
+-- a place before which all weights are below a bound that the edges at some vertex keep
+pub record IsStart (g : Multigraph) (weights : List ℤ) (place : ℕ) : Type 0 where
+  pub few : place ≤ length weights
+  pub vertex : ℕ
+  pub low : 1 ≤ vertex
+  pub high : vertex ≤ g.vertices
+  pub bound : ℤ
+  pub least : IsLeastAt g vertex bound
+  pub below : (p : ℕ) → p < place → int_lt (weight_at weights p) bound ≡ true
+
 -- a barrier of the graph of all edges that are lighter than the weight at this place, and at the
 -- end of the graph itself
 pub record BarsBelow (g : Multigraph) (weights : List ℤ) (place : ℕ) (set : List ℕ) : Type 0 where
@@ -75,10 +95,13 @@ abbrev pub narrowed : ℕ → Found → Range → Range
 narrowed middle (Matching edges) r = record r { high = middle; matching = edges }
 narrowed middle (Barrier set) r = record r { low = middle + 1; barrier = set }
 
--- such a range, and of the places before its end at most half of those of another one
-pub record IsHalf (g : Multigraph) (weights : List ℤ) (old new : Range) : Type 0 where
+-- such a range after a search among the edges up to a place of another one: it is at most as wide as
+-- the parts before that place and after it
+pub record IsNarrowed (g : Multigraph) (weights : List ℤ) (place : ℕ) (old new : Range)
+    : Type 0 where
   pub range : IsRange g weights new
-  pub half : 2 * (new.high - new.low) ≤ old.high - old.low
+  pub narrow : (most : ℕ) → place - old.low ≤ most → old.high - (place + 1) ≤ most
+      → new.high - new.low ≤ most
 
 -- what a range of one place says
 abbrev pub told : List ℤ → Range → Bottleneck

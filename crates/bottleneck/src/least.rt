@@ -7,7 +7,8 @@ ghost use Rattle.bottleneck.specs.Thresholds.{IsThreshold};
 
 use crate::found::Bottleneck;
 use crate::halving::halve;
-use crate::range::{told, whole_range};
+use crate::range::{range_from, told};
+use crate::starting::start;
 use crate::weights::different_weights;
 use mb_base::{OutOfMemory, Sequence, Steps};
 use mb_problem::Instance;
@@ -27,10 +28,10 @@ fn nothing(alloc: Global) -> Bottleneck
 
 /// A perfect matching that minimises the largest edge weight, with what proves that (Schrijver,
 /// Combinatorial Optimization, volume A, chapter 24): a barrier of the graph of all lighter edges.
-/// The different weights are halved over, from the least to the greatest: whether the edges of at
-/// most some weight have a perfect matching is one search with all weights 0, and 65,536 different
-/// weights need 17 at most. Below the least weight there is no edge, so the empty set is a barrier.
-/// `steps` counts the steps of the searches.
+/// The different weights are halved over, from the greatest of the vertices' least weights on,
+/// which is tried first: whether the edges of at most some weight have a perfect matching is one
+/// search with all weights 0, and 65,536 different weights need 17 at most. Below the first weight
+/// some vertex has no edge, so the empty set is a barrier. `steps` counts the searches' steps.
 ///
 /// # Errors
 ///
@@ -52,7 +53,8 @@ pub fn threshold<L: Ledger>(
     }
     let graph = instance.plain()?;
     let weights = different_weights(alloc, &graph)?;
-    let mut range = whole_range(alloc, &weights);
+    let first = start(alloc, &graph, &weights)?;
+    let mut range = range_from(alloc, first, &weights);
     halve(alloc, &graph, &weights, &mut range, steps)?;
     Ok(told(&weights, range))
 }

@@ -23,14 +23,14 @@ pub enum Found {
     Barrier(Vec<VertexId>),
 }
 
-/// The places of all weights, and the end behind them.
-pub fn whole_range(alloc: Global, weights: &[i64]) -> Range
-    ensures low { result.low ≡ 0 }
+/// The places of the weights from one on, and the end behind them.
+pub fn range_from(alloc: Global, low: usize, weights: &[i64]) -> Range
+    ensures low { result.low ≡ low }
     ensures high { result.high ≡ length weights.now }
     ensures barrier { result.barrier.items ≡ [] }
 {
     Range {
-        low: 0,
+        low,
         high: weights.len(),
         matching: Vec::new(alloc),
         barrier: Vec::new(alloc),

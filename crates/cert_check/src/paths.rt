@@ -3,7 +3,6 @@
 ghost use Rattle.std.specs.Prelude.{◌≡◌, ◌↔◌, ◌<◌, ◌≤◌, pos, ◌≤ℤ◌, true, None, length, map, All};
 ghost use Rattle.std.specs.Prelude.{nat_abs, slice_index_or, IsTrue, IfOk, IfSome};
 ghost use Rattle.graph_theory.specs.Parts.{holds};
-ghost use Rattle.outer_sets.specs.Decomposition.{Alternates, IsEvenPath};
 ghost use Rattle.mb_problem.specs.declared.kind.BestProof.TheVariants.{OuterPaths};
 ghost use Rattle.mb_problem.specs.Degrees.{AreDegrees};
 ghost use Rattle.mb_problem.specs.Kinds.{proof_of};
@@ -24,6 +23,7 @@ use crate::border::is_decomposed;
 use crate::claims::{counts_of, edges_of, members_of, natural};
 use crate::parts::{is_marked, marks_of};
 use crate::rule::{DocRule, Verdict};
+use alternating_paths::is_even_path;
 use certificates::certified;
 use doc_format::{DocStatus, Document, MemberLine};
 use graph_theory::GRAPH_VERTEX_LIMIT;
@@ -68,50 +68,6 @@ fn stated_of(alloc: Global, instance: &Instance, document: &Document) -> Result<
         degrees,
         outer,
     })
-}
-
-/// Whether edges are in the matching and outside it in turn, the first in it, an even number.
-fn alternates(counts: &[u32], edges: &[EdgeId]) -> bool
-    requires { All (λ e. (1 ≤ e) × (e ≤ length counts.now)) edges.now }
-    ensures { IsTrue result ↔ Alternates counts.now edges.now }
-{
-    let mut wanted = 1;
-    for edge in edges {
-        if counts[edge.number() as usize - 1] != wanted {
-            return false;
-        }
-        wanted = 1 - wanted;
-    }
-    wanted == 1
-}
-
-/// Whether edges are an even path along a matching to a vertex that it misses.
-fn is_even_path(
-    alloc: Global,
-    instance: &Instance,
-    counts: &[u32],
-    degrees: &[u64],
-    start: VertexId,
-    edges: &[EdgeId],
-) -> Result<bool, OutOfMemory>
-    requires one_each { length counts.now ≡ length instance.now.edges }
-    requires degrees { AreDegrees instance.now counts.now degrees.now }
-    requires low { 1 ≤ start }
-    requires high { start ≤ vertices instance.now }
-    requires network { IsNetwork instance.now }
-    ensures { IfOk result
-        (λ b. IsTrue b ↔ IsEvenPath (graph_of instance.now) counts.now start edges.now) }
-{
-    let Some(end) = walk_end(instance, start, edges) else {
-        return Ok(false);
-    };
-    if !vertices_differ(alloc, instance, start, edges)? {
-        return Ok(false);
-    }
-    if !alternates(counts, edges) {
-        return Ok(false);
-    }
-    Ok(degrees[end.number() as usize - 1] == 0)
 }
 
 /// Whether the `r` line at a place is a path as it has to be, in time linear in the vertices.

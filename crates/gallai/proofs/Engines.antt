@@ -1,12 +1,12 @@
 -- What is read off an engine, by the numbers of the instance.
-use Rattle.mb_problem.proofs.Common.{◌≡◌, ℕ, ◌-◌, ◌≤◌, ap, sym, ◌∙◌, subst, arith, List, [], ◌∷◌, ◌++◌, length, map, slice_index, All, map-append, All-push}
+use Rattle.mb_problem.proofs.Common.{◌≡◌, ℕ, ◌+◌, ◌-◌, ◌≤◌, ap, sym, ◌∙◌, subst, arith, List, [], ◌∷◌, ◌++◌, length, map, slice_index, All, map-append, All-push}
 use Rattle.mb_problem.proofs.Common.{IsStrictlyIncreasing, Multigraph, IsEdgeNumber, IsPerfect, IsWithinLimits, IsVertexSet, IsEvenPath, IsDecomposed, edges_used, IsMatched, PathsDecompose}
 use Rattle.mb_problem.proofs.Common.{LoopsMatterNot, Network, IsNetwork, vertices, graph_of, link_count}
-use Rattle.gadget_base.proofs.Common.{with_loops, ListsCounts, links-few}
+use Rattle.gadget_base.proofs.Common.{with_loops, ListsCounts, links-few, times_each, ascending-once, few-steps}
 use Rattle.mwpm_engine.specs.Solutions.{Solution, IsBarred, IsSolved, matching_of, size_of_graph}
 use Rattle.gallai.specs.Decompositions.{ArePathsFrom, IsDecomposition, link_numbers}
 use Rattle.gallai.proofs.Links.{numbers-length}
-use Rattle.gallai.proofs.Moved.{searched_graph, searched-count, moved, moved-path}
+use Rattle.gallai.proofs.Moved.{searched_graph, searched-count, moved, moved-path, moved-numbers, moved-ascends, moved-counts}
 use Rattle.gallai.proofs.Greatest.{from_links, listed-used}
 use Rattle.gallai.proofs.Whole.{whole-found}
 
@@ -76,3 +76,20 @@ within_limits i g network same =
     let few_vertices = network.few_vertices in
     let few_edges = network.few_edges in
     rw same (record { vertices = omega (arith, few_vertices); edges = omega (arith, few_edges, searched-count i, links-few i (length i.edges)) })
+
+-- the counts of a matching by the numbers of the instance
+pub record AreCounted (i : Network) (s : Solution) (all : List ℕ) : Type 0 where
+  pub numbers : All (IsEdgeNumber (graph_of i)) all
+  pub few : length all ≤ length i.edges
+  pub counts : times_each (graph_of i) all ≡ with_loops i (matching_of s.graph s.mates)
+
+pub counted-edges : (i : Network) (s : Solution) (h : Multigraph) (numbers es all : List ℕ) → h ≡ searched_graph i → s.graph ≡ h → numbers ≡ link_numbers i
+    → ListsCounts h (matching_of h s.mates) es → IsStrictlyIncreasing es → all ≡ map (λ e. slice_index numbers (e - 1)) es → AreCounted i s all
+counted-edges i s h numbers es all is same links lists up listed =
+    let k = searched_graph i in
+    let counts = matching_of s.graph s.mates in
+    let moves : all ≡ moved i es = listed ∙ by_numbers i h numbers is links es in
+    let ours : ListsCounts k counts es = subst (λ (g : Multigraph). ListsCounts g counts es) is (subst (λ (g : Multigraph). ListsCounts h (matching_of g s.mates) es) (sym same) lists) in
+    let edges : All (IsEdgeNumber (graph_of i)) (moved i es) = moved-numbers i es ours.numbers in
+    let short = few-steps 1 i (moved i es) edges (λ e b. ascending-once (moved i es) (e + 1) (moved-ascends i es ours.numbers up)) in
+    rw moves (record { numbers = edges; few = omega (arith, short); counts = moved-counts i counts es ours })

@@ -1,1 +1,2 @@
 pub mod Decompositions
+pub mod Finders

@@ -8,7 +8,9 @@ ghost use Rattle.gadget_base.specs.Links.{with_loops};
 ghost use Rattle.mwpm_engine.specs.declared.outcome.Outcome.TheVariants.{Matched, Barrier};
 ghost use Rattle.mwpm_engine.specs.Solutions.{Ends, matching_of, most_steps, size_of_graph};
 ghost use Rattle.gallai.specs.Decompositions.{ArePathsFrom, IsDecomposition, link_numbers};
+ghost use Rattle.gallai.specs.Finders.{Finds};
 
+use crate::finding::{Finder, finder_of, tested_path};
 use crate::found::Decomposition;
 use crate::numbers::{link_numbers, numbers_of};
 use crate::reading::{greatest_matching, outer_vertices};
@@ -48,8 +50,8 @@ fn whole(
     })
 }
 
-/// A path from an outer vertex, by the numbers of the instance.
-fn path_from(
+/// The engine's path from an outer vertex, by the numbers of the instance.
+fn engine_path(
     alloc: Global,
     instance: &Instance,
     engine: &Engine,
@@ -69,25 +71,56 @@ fn path_from(
     numbers_of(alloc, numbers, &edges)
 }
 
+/// A path from an outer vertex, by the numbers of the instance: the finder's, or the engine's if
+/// that fails the test.
+fn path_from(
+    alloc: Global,
+    instance: &Instance,
+    engine: &Engine,
+    numbers: &[EdgeId],
+    finder: &Finder,
+    vertex: VertexId,
+) -> Result<Vec<EdgeId>, OutOfMemory>
+    requires network { IsNetwork instance.now }
+    requires barrier { engine.now.outcome ≡ Some Barrier }
+    requires ends { Ends engine.now Barrier }
+    requires graph { engine.now.graph ≡ unweighted (plain_graph instance.now) }
+    requires links { numbers.now ≡ link_numbers instance.now }
+    requires finder { Finds instance.now (with_loops instance.now
+        (matching_of engine.now.graph engine.now.mates)) finder.now }
+    requires outer { holds engine.now.outer vertex ≡ true }
+    ensures { IfOk result (λ es. IsEvenPath (graph_of instance.now) (with_loops instance.now
+        (matching_of engine.now.graph engine.now.mates)) vertex es.items) }
+{
+    match tested_path(alloc, instance, finder, vertex)? {
+        Some(edges) => Ok(edges),
+        None => engine_path(alloc, instance, engine, numbers, vertex),
+    }
+}
+
 /// A path for each outer vertex, in order.
 fn paths_from(
     alloc: Global,
     instance: &Instance,
     engine: &Engine,
     numbers: &[EdgeId],
+    finder: &Finder,
     outer: &[VertexId],
 ) -> Result<Sequence<(VertexId, Sequence<EdgeId>)>, OutOfMemory>
+    requires network { IsNetwork instance.now }
     requires barrier { engine.now.outcome ≡ Some Barrier }
     requires ends { Ends engine.now Barrier }
     requires graph { engine.now.graph ≡ unweighted (plain_graph instance.now) }
     requires links { numbers.now ≡ link_numbers instance.now }
+    requires finder { Finds instance.now (with_loops instance.now
+        (matching_of engine.now.graph engine.now.mates)) finder.now }
     requires outer { outer.now ≡ engine.now.outer }
     ensures { IfOk result (ArePathsFrom instance.now (with_loops instance.now
         (matching_of engine.now.graph engine.now.mates)) outer.now) }
 {
     let mut paths = Sequence::new(alloc);
     for vertex in outer {
-        let edges = path_from(alloc, instance, engine, numbers, *vertex)?;
+        let edges = path_from(alloc, instance, engine, numbers, finder, *vertex)?;
         paths.push((*vertex, Sequence::from_vec(edges)))?;
     }
     Ok(paths)
@@ -115,7 +148,8 @@ fn parted(
     drop(edges);
     let outer = outer_vertices(alloc, engine, graph)?;
     let border = barrier_vertices(alloc, engine, graph)?;
-    let paths = paths_from(alloc, instance, engine, &numbers, &outer)?;
+    let finder = finder_of(alloc, instance, &all)?;
+    let paths = paths_from(alloc, instance, engine, &numbers, &finder, &outer)?;
     Ok(Decomposition {
         matching: Sequence::from_vec(all),
         d: Sequence::from_vec(outer),
@@ -147,8 +181,10 @@ fn searched<L: Ledger>(
 
 /// A greatest matching, the vertices that some greatest one misses with a path for each, and their
 /// neighbours (Gallai, Edmonds; Schrijver, Combinatorial Optimization, volume A, chapter 24), by
-/// one search with all weights 0. Edges have the numbers of the instance. `steps` counts the steps
-/// of the search; a path besides takes time linear in the vertices.
+/// one search with all weights 0. Edges have the numbers of the instance. A second search, from the
+/// vertices that the matching misses, guesses the paths in time linear in their edges. Each is
+/// tested in time linear in the vertices, and the engine finds one in such a time if it fails.
+/// `steps` counts the steps of the engine's search.
 ///
 /// # Errors
 ///

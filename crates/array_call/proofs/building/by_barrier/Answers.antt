@@ -1,24 +1,16 @@
-use Rattle.certificates.proofs.Common.{◌≡◌, ℕ, true, List, length, All, Option, Some, sym, subst, rules, Kind, form_of, CountLine, MemberLine, Body, blank, ascends, AscendsBy}
-use Rattle.certificates.proofs.Common.{only-bottleneck}
-use Rattle.dual_free_kinds.proofs.Forms.{form-lightest}
-use Rattle.solve_kinds.proofs.Forms.{formed-as as formed-by}
-use Rattle.array_call.specs.Sheets.{IsCountOn, HasSizeFor}
+use Rattle.certificates.proofs.Common.{ℕ, All, sym, subst, Kind, form_of, only-bottleneck}
+use Rattle.array_call.specs.Sheets.{IsCountOn, IsAnswerOn, sheet_of}
+use Rattle.array_call.proofs.Founds.{made-by-barrier}
 use Rattle.array_call.proofs.building.by_barrier.Goals as goal
-
-pub invariant_of-document : goal.invariant_of-document
-invariant_of-document c =
-    let counts : List CountLine = c.from_vec-counts.result in
-    let barrier : Option MemberLine = Some c.in_ok-barrier.barrier in
-    let ascending : ascends c.in_ok-barrier.barrier.members ≡ true = search rules in
-    record {
-      form = formed-by c.new-document.result _ blank (λ (b : Body). record b { counts = counts; barrier = barrier }) c.new-document.ensures.head c.new-document.ensures.body
-          (form-lightest c.args.kind _ counts barrier c.requires.proof
-          (subst (λ (xs : List CountLine). AscendsBy (λ x. x.edge) xs) (sym c.from_vec-counts.ensures) c.in_ok-count_lines.ensures.ascending) ascending);
-    }
 
 pub returns-clause-counts : goal.returns-clause-counts
 returns-clause-counts c =
-    let n = length c.args.parts.now.answer.now in
-    let size : n ≡ c.args.m = subst (λ (k : Kind). HasSizeFor (form_of k) n c.args.m) (sym (only-bottleneck c.args.kind c.requires.proof)) c.requires.size in
-    let within = subst (λ (xs : List CountLine). All (IsCountOn n) xs) (sym c.from_vec-counts.ensures) c.in_ok-count_lines.ensures.within in
-    subst (λ (m : ℕ). All (IsCountOn m) c.from_vec-counts.result) size within
+    let answer = c.args.parts.now.answer.now in
+    let counts = subst (λ (k : Kind). IsAnswerOn (form_of k) c.args.m answer) (sym (only-bottleneck c.args.kind c.requires.proof)) c.requires.answer in
+    subst (λ (m : ℕ). All (IsCountOn m) c.in_ok-lightest.field-0.counts) counts.0 c.in_ok-lightest.ensures.counts
+
+pub returns-clause-found : goal.returns-clause-found
+returns-clause-found c =
+    let b = c.in_ok-lightest.field-0 in
+    let e = c.in_ok-lightest.ensures in
+    made-by-barrier c.args.kind c.args.m (sheet_of c.args.parts.now) b c.requires.proof c.requires.answer c.requires.status e.kind e.status e.weight e.answer e.barrier

@@ -1,7 +1,8 @@
-use Rattle.certificates.proofs.Common.{◌≡◌, ℕ, List, length, All, sym, ap, ◌∙◌, subst, arith, CountLine, AscendsBy, numbers, lines-push}
+use Rattle.certificates.proofs.Common.{◌≡◌, ℕ, pos, List, map, length, All, sym, ap, ◌∙◌, subst, arith, CountLine, AscendsBy, counts_of, numbers, lines-push}
 use Rattle.document_lines.specs.Lines.{is_used, line_at}
 use Rattle.array_call.specs.Sheets.{IsCountOn}
 use Rattle.array_call.proofs.Sheets.{lines_to, lines-ascend, lines-on}
+use Rattle.array_call.proofs.CountsBack.{lines-back}
 use Rattle.array_call.proofs.building.count_lines.Goals as goal
 
 pub loop-k-preserved : goal.loop-k-preserved
@@ -17,3 +18,10 @@ returns-clause-within c =
     let cs : List ℕ = numbers c.args.counts.now in
     let all : c.loop-k.k ≡ length c.args.counts.now = omega arith in
     subst (λ (xs : List CountLine). All (IsCountOn (length c.args.counts.now)) xs) (sym (c.loop-k.invariant ∙ ap (lines_to cs) all)) (lines-on cs (length c.args.counts.now))
+
+pub returns-clause-counts : goal.returns-clause-counts
+returns-clause-counts c =
+    let cs : List ℕ = numbers c.args.counts.now in
+    let n = length c.args.counts.now in
+    let all : c.loop-k.k ≡ n = omega arith in
+    ap (λ (xs : List CountLine). map pos (counts_of xs n)) (c.loop-k.invariant ∙ ap (lines_to cs) all) ∙ lines-back c.args.counts.now c.requires.natural

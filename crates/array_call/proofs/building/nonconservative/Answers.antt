@@ -1,11 +1,10 @@
-use Rattle.certificates.proofs.Common.{rules, Body, blank}
-use Rattle.solve_kinds.proofs.Forms.{formed-as as formed-by}
-use Rattle.array_call.proofs.Sheets.{form-circuit}
+use Rattle.certificates.proofs.Common.{◌≡◌, true, asks_conservative, rules}
+use Rattle.array_call.specs.Sheets.{sheet_of}
+use Rattle.array_call.proofs.Founds.{made-walk}
 use Rattle.array_call.proofs.building.nonconservative.Goals as goal
 
-pub invariant_of-document : goal.invariant_of-document
-invariant_of-document c =
-    record {
-      form = formed-by c.new-document.result _ blank (λ (b : Body). record b { walk = c.in_ok-walk.walk }) c.new-document.ensures.head c.new-document.ensures.body
-          (form-circuit c.args.kind c.in_ok-walk.walk (search rules) c.in_ok-walk.ensures);
-    }
+pub returns-clause-found : goal.returns-clause-found
+returns-clause-found c = λ m.
+    let e = c.in_ok-circuit.ensures in
+    let asks : asks_conservative c.args.kind ≡ true = search rules in
+    made-walk c.args.kind m (sheet_of c.args.parts.now) c.in_ok-circuit.field-0 asks c.requires.status e.kind e.status e.edges e.start

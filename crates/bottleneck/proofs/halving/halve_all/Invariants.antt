@@ -1,7 +1,7 @@
 use Rattle.graph_theory.proofs.Common.{◌-◌}
 use Rattle.mwpm_engine.specs.Solutions.{most_steps, size_of_graph}
 use Rattle.bottleneck.proofs.Ranges.{IsHalving}
-use Rattle.bottleneck.proofs.halving.halve.Given as goal
+use Rattle.bottleneck.proofs.halving.halve_all.Given as goal
 
 abbrev pub decreases-loop-range : goal.decreases-loop-range
 decreases-loop-range g l = l.range.high - l.range.low

@@ -1,7 +1,7 @@
 use Rattle.mb_problem.proofs.Common.{◌≡◌, ℕ, ◌≤◌, ◌∙◌, sym, All, length, subst, arith, refl, eq-eqb, eqb-true, IsWalk, walk_end, walk_vertices, AllDiffer, walk-numbers}
 use Rattle.mb_problem.proofs.Common.{false≢true, walk-within, Alternates, graph_of, edges-count, network-graph}
-use Rattle.cert_check.proofs.PathLemmas.{even-path}
-use Rattle.cert_check.proofs.paths.is_even_path.Goals as goal
+use Rattle.alternating_paths.proofs.PathLemmas.{even-path}
+use Rattle.alternating_paths.proofs.path_test.is_even_path.Goals as goal
 
 pub alternates-requires : goal.alternates-requires
 alternates-requires c =

@@ -1,8 +1,8 @@
-use Rattle.certificates.proofs.Common.{◌↔◌, ℕ, ◌-◌, [], List, slice_index, ap, sym, ◌∙◌, false≢true, subst, Alternates, eq-eqb, eqb-true}
+use Rattle.mb_problem.proofs.Common.{◌↔◌, ℕ, ◌-◌, [], List, slice_index, ap, sym, ◌∙◌, false≢true, subst, Alternates, eq-eqb, eqb-true}
 use Rattle.graph_theory.proofs.Common.{arith}
 use Rattle.std.proofs.lemmas.List.{drop_all, drop_more}
-use Rattle.cert_check.proofs.PathLemmas.{AlternateFrom, alternate-from}
-use Rattle.cert_check.proofs.paths.alternates.Goals as goal
+use Rattle.alternating_paths.proofs.PathLemmas.{AlternateFrom, alternate-from}
+use Rattle.alternating_paths.proofs.path_test.alternates.Goals as goal
 
 pub loop-edge-init : goal.loop-edge-init
 loop-edge-init c = record { one_or_none = omega arith; rest = alternate-from c.args.counts.now c.args.edges.now }

@@ -1,0 +1,182 @@
+"""Tests of the scripts that read clauses: in a small made repository they find which calls, clauses
+and definitions went or changed, what is explained, and which definitions no clause cites."""
+import os
+import subprocess
+import sys
+import tempfile
+
+TOP = os.path.join(os.path.dirname(os.path.abspath(__file__)), "..")
+SCRIPTS = os.path.join(TOP, "scripts")
+SOURCE = """ghost use Rattle.low.specs.Laws.{IsSmall, IsHidden, ◌~◌};
+
+/// A call. // ensures comment { IsLost x }
+pub fn small(x: u32) -> bool
+    requires room { x < 5 }
+    ensures { result ≡ true }
+    ensures { x ~ x }
+    ensures bound { IsSmall x { x } }
+{
+    inner(x)
+}
+
+fn inner(x: u32) -> bool
+    ensures hidden { IsHidden x }
+{
+    true
+}
+
+impl<'a, T: Ord> Iterator for Thing<'a, T> {
+    fn next(&mut self) -> u32
+        ensures next { result ≡ 1 }
+    {
+        1
+    }
+}
+
+impl Thing {
+    pub fn get(&self) -> u32
+        ensures value { result ≡ 1 }
+    {
+        1
+    }
+}
+"""
+LAWS = """-- IsSmall lost
+use Rattle.low.specs.Other.{helper}
+
+abbrev pub IsSmall : ℕ → Type
+IsSmall x = helper x ≡ true
+
+record IsHidden (x : ℕ) : Type where
+  deep : IsDeep x
+
+abbrev pub IsDeep : ℕ → Type
+IsDeep x = x ≡ x
+
+abbrev pub ◌~◌ : ℕ → ℕ → Type
+a ~ b = a ≡ b
+
+abbrev pub IsLost : ℕ → Type
+IsLost x = IsDeep x
+"""
+OTHER = """pub use Rattle.low.specs.Deeper.{helper}
+"""
+DEEPER = """abbrev pub helper : ℕ → Bool
+helper x = x < 9
+"""
+PROOF = """use Rattle.low.specs.Laws.{IsLost}
+lost : IsLost 1
+lost = ?
+"""
+IS_GONE = "low.%s: the definition is gone"
+#: The definitions that the clauses of `small` alone reach.
+OF_SMALL = [IS_GONE % "IsSmall", IS_GONE % "helper", IS_GONE % "◌~◌"]
+#: What is changed in the second state, and what is found then.
+CHANGES = (
+    ("pub fn small", "pub fn tiny", ["low::small: the call is gone"]),
+    ("result ≡ true", "result ≡ false", ["low::small: - changed"]),
+    ("    ensures { x ~ x }\n", "", ["low::small: -2 is gone", OF_SMALL[2]]),
+    ("ensures bound", "ensures limit", ["low::small: bound is gone"]),
+    ("requires room { x < 5 }", "requires room { x < 4 }", ["low::small: requires:room changed"]),
+    ("    requires room { x < 5 }\n", "", []),
+    ("x < 5 }\n", "x < 5 }\n    requires more { x ≡ 1 }\n", ["low::small: requires:more came"]),
+    ("x < 5 }\n", "x < 5 }\n    ensures more { x ≡ 1 }\n", []),
+    ("ensures hidden { IsHidden x }", "ensures hidden { IsHidden 1 }", []),
+    ("ensures next { result ≡ 1 }", "", ["low::Iterator for Thing::next: next is gone"]),
+    ("value { result ≡ 1 }", "value { result ≡ 2 }", ["low::Thing::get: value changed"]),
+    ("x < 9", "x < 8", ["low.helper: the definition changed"]),
+    ("x = helper x", "x = other x", ["low.IsSmall: the definition changed", OF_SMALL[1]]),
+    ("IsDeep x = x ≡ x", "IsDeep x = x ≡ 1", []),
+)
+#: The table's line, a change, and what is left of it.
+EXPLAINED = (
+    ("rename small tiny", "pub fn small", "pub fn tiny", []),
+    ("gone low::small it went", "pub fn small", "fn small", OF_SMALL),
+    ("moved low::small low::tiny", "pub fn small", "pub fn tiny", []),
+    ("stronger low::small bound it holds", "IsSmall x {", "IsSmall 1 {", []),
+    ("stronger low::small - it holds", "IsSmall x {", "IsSmall 1 {", ["low::small: bound changed"]),
+    ("definition low.helper it is less", "x < 9", "x < 8", []),
+    ("# gone low::small", "pub fn small", "fn small", ["low::small: the call is gone", *OF_SMALL]),
+)
+UNCITED = """low/specs/Laws.antt:16: IsLost: no clause; named in 1 of proofs/
+low/specs/Laws.antt:7: IsHidden: private clauses alone; named in 0 of proofs/
+low/specs/Laws.antt:10: IsDeep: private clauses alone; named in 0 of proofs/
+6 definitions, 3 that clauses of public calls reach, 2 that others do, 1 that none do
+"""
+
+
+def laid_out(folder, old="", new=""):
+    """The made repository in a folder, with one change."""
+    for path, text in (
+        ("src/lib.rt", SOURCE),
+        ("specs/Laws.antt", LAWS),
+        ("specs/Other.antt", OTHER),
+        ("specs/Deeper.antt", DEEPER),
+        ("proofs/Lost.antt", PROOF),
+        ("out/src/lib.rt", "pub fn built() ensures built { IsLost 1 } {}"),
+    ):
+        path = os.path.join(folder, "crates", "low", path)
+        os.makedirs(os.path.dirname(path), exist_ok=True)
+        with open(path, "w", encoding="utf-8") as file:
+            file.write(text.replace(old, new) if old else text)
+
+
+def found(line, old, new):
+    """What differs after a change, with a table of this one line."""
+    import compare_clauses as script
+
+    with tempfile.TemporaryDirectory() as before, tempfile.TemporaryDirectory() as after:
+        laid_out(before)
+        laid_out(after, old, new)
+        path = os.path.join(before, "table")
+        with open(path, "w", encoding="utf-8") as file:
+            file.write(line + "\n")
+        table = script.Table(path)
+        calls = [script.public_calls(folder) for folder in (before, after)]
+        reached = [script.reached_definitions(folder) for folder in (before, after)]
+        return [
+            *script.differences(table, *calls),
+            *script.definition_differences(table, *reached),
+        ]
+
+
+def clauses(tests):
+    sys.path.insert(0, SCRIPTS)
+    for old, new, wanted in CHANGES:
+        tests.compare("clauses after %r" % new, old, wanted, found("", old, new))
+    for line, old, new, wanted in EXPLAINED:
+        tests.compare("clauses by %r" % line, old, wanted, found(line, old, new))
+    sys.path.remove(SCRIPTS)
+
+
+def revisions(tests):
+    """The script itself, over two states of a checkout."""
+    git = ["git", "-c", "user.name=test", "-c", "user.email=test@example.org"]
+    with tempfile.TemporaryDirectory() as room:
+        laid_out(room)
+        for words in (["init", "-q"], ["add", "crates"], ["commit", "-q", "-m", "first"]):
+            subprocess.run([*git, *words], cwd=room, check=True)
+        laid_out(room, "value { result ≡ 1 }", "value { result ≡ 2 }")
+        words = [sys.executable, os.path.join(SCRIPTS, "compare_clauses.py"), "HEAD", room]
+        done = subprocess.run(words, capture_output=True, text=True)
+        lines = [line for line in done.stdout.splitlines() if not line.startswith("not needed: ")]
+        needless = len(done.stdout.splitlines()) - len(lines)
+        last = "3 public calls with 6 clauses, 3 definitions; 0 explained, %d left" % (needless + 1)
+        wanted = (1, ["low::Thing::get: value changed", last])
+        tests.compare("clauses of two revisions", "", wanted, (done.returncode, lines))
+
+
+def uncited(tests):
+    with tempfile.TemporaryDirectory() as room:
+        laid_out(room)
+        words = [sys.executable, os.path.join(SCRIPTS, "uncited_definitions.py"), room]
+        done = subprocess.run([*words, "--private"], capture_output=True, text=True)
+        tests.compare("definitions that no clause cites", "", UNCITED, done.stdout)
+        alone = subprocess.run(words, capture_output=True, text=True).stdout
+        short = UNCITED.splitlines()
+        tests.compare("the same, of all", "", [short[0], short[3]], alone.splitlines())
+
+
+def check(tests):
+    for part in (clauses, revisions, uncited):
+        part(tests)
