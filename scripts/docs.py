@@ -18,6 +18,7 @@ import sys
 import crate_pages
 import gallery_page
 import header_page
+import must_fail_page
 import proof_page
 import python_page
 from crate_groups import TOP, read
@@ -38,6 +39,7 @@ PARTS = {
         "tasks": header_page.tasks_part,
         "kinds": header_page.kinds_part,
     },
+    "docs/TESTING.md": {"must-fail edits": must_fail_page.must_fail_part},
     "docs/PROOF.md": {"reach": proof_page.reach_part},
 }
 #: Parts that other scripts make: a name, or the path of the script, and the script.

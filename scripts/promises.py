@@ -80,3 +80,28 @@ def promises_of(text, definitions):
 def promises(crate, definitions):
     """The promises of a crate, by source."""
     return [one for path in sources(crate) for one in promises_of(read(path), definitions)]
+
+
+def contracts(text):
+    """The calls of a source by name, with what their contracts ensure."""
+    found, owner, call = collections.defaultdict(set), None, None
+    for line in text.split("\n"):
+        block, head, clause = OWNER.match(line), CALL.match(line), CLAUSE.match(line)
+        if block or line == "}":
+            owner = block and block[1]
+        if head:
+            call = "%s::%s" % (owner, head[1]) if owner else head[1]
+            found[call] |= set()
+        elif clause and clause[1] == "ensures" and call:
+            found[call].add(clause[2])
+    return found
+
+
+@functools.lru_cache(maxsize=None)
+def contracts_of(crate):
+    """The calls of a crate, with what their contracts ensure. Of two calls of a name, both."""
+    found = collections.defaultdict(set)
+    for path in sources(crate):
+        for call, clauses in contracts(read(path)).items():
+            found[call] |= clauses
+    return dict(found)

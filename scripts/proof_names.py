@@ -6,14 +6,13 @@ and a colon are clauses of its contract, [`Name`](../crates/CRATE/specs/FILE.ant
 that file, and each other name in backticks is a crate, a definition, a path or one of WORDS. Prints
 a line for each name that doesn't exist, and ends with status 1 if there are any."""
 import argparse
-import collections
 import glob
 import os
 import re
 import sys
 
-from crate_groups import TOP, crates, read, sources
-from promises import CALL, CLAUSE, OWNER, all_definitions
+from crate_groups import TOP, crates, read
+from promises import all_definitions, contracts_of
 
 PAGE = "docs/PROOF.md"
 #: What the page names beside calls, clauses, definitions, crates and paths.
@@ -27,29 +26,13 @@ DEFINED = re.compile(r"\[`([^`]+)`\]\(\.\./crates/([\w/]+)\.antt\)")
 LINK = re.compile(r"\]\((?!https?:|#)([^)#]+)(?:#[^)]*)?\)")
 
 
-def contracts(text):
-    """The calls of a source by name, with what their contracts ensure."""
-    found, owner, call = collections.defaultdict(set), None, None
-    for line in text.split("\n"):
-        block, head, clause = OWNER.match(line), CALL.match(line), CLAUSE.match(line)
-        if block or line == "}":
-            owner = block and block[1]
-        if head:
-            call = "%s::%s" % (owner, head[1]) if owner else head[1]
-            found[call] |= set()
-        elif clause and clause[1] == "ensures" and call:
-            found[call].add(clause[2])
-    return found
-
-
 def all_contracts():
     """All calls as `crate::call`, with the clauses of their contracts. Where a crate has two calls
     of a name, those of both."""
-    found = collections.defaultdict(set)
+    found = {}
     for crate in crates():
-        for path in sources(crate):
-            for call, clauses in contracts(read(path)).items():
-                found["%s::%s" % (crate, call)] |= clauses
+        for call, clauses in contracts_of(crate).items():
+            found["%s::%s" % (crate, call)] = clauses
     return found
 
 

@@ -12,6 +12,7 @@ import tempfile
 TOP = os.path.join(os.path.dirname(os.path.abspath(__file__)), "..")
 sys.path.append(os.path.join(TOP, "scripts"))
 import docs  # noqa: E402
+import must_fail_page  # noqa: E402
 import promises  # noqa: E402
 import proof_names  # noqa: E402
 import prose  # noqa: E402
@@ -154,6 +155,34 @@ def planted_lengths(tests):
     tests.compare("a part made anew", b"", PARTED[1][0].replace("x\ny", "z"), made)
 
 
+def is_refused(call, *words):
+    """Whether a call refuses its arguments by a ValueError."""
+    try:
+        call(*words)
+    except ValueError:
+        return True
+    return False
+
+
+def planted_refusals(tests):
+    """A list of what refuses must-fail edits names each edit, calls and clauses that exist."""
+    for refused, wrong in (
+        ("judge: verdict, sound", False),
+        ("judge: verdict; judge", False),
+        ("jugde: verdict", True),
+        ("judge: verdict, soundly", True),
+        ("judge: verdict; bound", True),
+    ):
+        found = is_refused(must_fail_page.checked, "cert_check", refused)
+        tests.compare("refused by " + refused, b"", wrong, found)
+    known = must_fail_page.refusals()
+    more = {**known, ("cert_check", "no_such_edit"): "judge: verdict"}
+    fewer = dict(list(known.items())[1:])
+    for name, listed, wrong in (("all", known, False), ("more", more, True), ("less", fewer, True)):
+        found = is_refused(must_fail_page.must_fail_part, listed)
+        tests.compare("must-fail edits, %s listed" % name, b"", wrong, found)
+
+
 def planted_parts(tests):
     """A page without a row of its generated part is found, and so is a part that no script makes."""
     for path in sorted(docs.PARTS):
@@ -211,6 +240,7 @@ def check(tests):
     planted_names(tests)
     planted_promises(tests)
     planted_lengths(tests)
+    planted_refusals(tests)
     planted_parts(tests)
     planted_prose(tests)
     manual(tests)
