@@ -3,6 +3,7 @@ from __future__ import annotations
 
 import re
 from dataclasses import dataclass, field, fields
+from functools import cached_property
 from itertools import chain
 from typing import Any, Dict, FrozenSet, List, Literal, NamedTuple, Optional, Set, Tuple, Union
 
@@ -112,6 +113,23 @@ class Document:
         return "<%s document of %s>" % (self.status, self.kind)
 
 
+class TextDocument(Document):
+    """A document of a text. Lines of duals, once found to be ones, become numbers when somebody asks
+    for the duals.
+
+    dual_lines: one line or more each, in their order."""
+
+    def __init__(self, status: Status, kind: str, weight: Optional[int] = None) -> None:
+        super().__init__(status, kind, weight)
+        del self.duals  # (so that the next look at it makes it)
+        self.dual_lines: List[str] = []
+
+    @cached_property
+    def duals(self) -> Dict[int, int]:  # type: ignore[override]
+        fields = " ".join(self.dual_lines).split()
+        return dict(zip(map(int, fields[1::3]), map(int, fields[2::3])))
+
+
 def of(given: Union[bytes, Document]) -> Document:
     """The document that was given, or that of a text. SolverError: the text is none."""
     return given if isinstance(given, Document) else read(given)
@@ -145,14 +163,14 @@ def set_line(one: SetLine) -> str:
     return " ".join(["z", str(one.dual), str(len(items)), *items])
 
 
-def header(fields: List[str]) -> Document:
+def header(fields: List[str]) -> TextDocument:
     """The document that an `s` line begins. ValueError, KeyError, IndexError: it isn't such a
     line."""
     status, kind = STATES[fields[1]], fields[2]
     length = 4 if status == "optimal" else 3
     if fields[0] != "s" or len(fields) != length:
         raise ValueError(fields)
-    return Document(status, kind, int(fields[3]) if length == 4 else None)
+    return TextDocument(status, kind, int(fields[3]) if length == 4 else None)
 
 
 def take_set(document: Document, fields: List[str]) -> None:
@@ -161,12 +179,13 @@ def take_set(document: Document, fields: List[str]) -> None:
     dual, count, items = int(fields[0]), int(fields[1]), fields[2:]
     references = [int(item[1:]) for item in items if item[0] == "@"]
     vertices = list(map(int, [item for item in items if item[0] != "@"] if references else items))
-    if len(items) != count or not all(1 <= one <= len(document.set_lines) for one in references):
+    known = len(document.set_lines)
+    if len(items) != count or references and not 1 <= min(references) <= max(references) <= known:
         raise ValueError(fields)
     document.set_lines.append(SetLine(dual, vertices, references))
 
 
-def take(document: Document, letter: str, numbers: List[int]) -> None:
+def take(document: TextDocument, letter: str, numbers: List[int]) -> None:
     """Adds one line but that of a set to the document. ValueError, IndexError: its numbers aren't
     those of such a line, or it stands there a second time."""
     before = COUNTED.get(letter, 2)
@@ -179,7 +198,7 @@ def take(document: Document, letter: str, numbers: List[int]) -> None:
         document.counts[edge] = count
     elif letter == "y":
         vertex, dual = numbers
-        document.duals[vertex] = dual
+        document.dual_lines.append("y %d %d" % (vertex, dual))
     elif letter == "r":
         if numbers[0] in document.paths:
             raise ValueError(letter)
@@ -225,7 +244,7 @@ def read(text: bytes) -> Document:
     """The document of a text; comments and blank lines are skipped. SolverError: it is none."""
     document, letters = None, frozenset[str]()
     for line in PIECES.findall(text.decode("latin-1")):
-        fields = line.split()
+        fields = line.split(None, 1) if "\n" in line else line.split()
         if not fields or fields[0].startswith("c"):
             continue
         try:
@@ -237,7 +256,7 @@ def read(text: bytes) -> Document:
             elif fields[0] == "z":
                 take_set(document, fields[1:])
             elif "\n" in line:
-                document.duals.update(zip(map(int, fields[1::3]), map(int, fields[2::3])))
+                document.dual_lines.append(line)
             else:
                 take(document, fields[0], list(map(int, fields[1:])))
         except (ValueError, KeyError, IndexError):

@@ -320,9 +320,27 @@ class NoAnswer(unittest.TestCase):
         for text, words in (
             (b"s OPTIMAL match 5\nx 1 1\n", "expected perfect, got match"),
             (b"s OPTIMAL perfect 5\nx 2 1\n", "refers to edge 2"),
+            (b"s OPTIMAL perfect 5\nx 1 1\nx 0 1\n", "refers to edge 0"),
+            (b"s OPTIMAL perfect 5\nx -1 1\nx 1 1\n", "refers to edge -1"),
+            (b"s INFEASIBLE perfect\nu 2 1 3\n", "refers to node 3, but the graph has 2"),
+            (b"s INFEASIBLE perfect\nu 1 0\n", "refers to node 0"),
         ):
             with self.assertRaisesRegex(blossom.SolverError, words):
                 answer_of(blossom.Instance.from_graph([("a", "b", 5)], "perfect"), 0, text)
+
+    def test_steps_of_a_walk_along_parallel_edges(self):
+        streets = [("a", "b", 1), ("b", "a", 2), ("b", "c", 3), ("c", "c", 4), ("c", "a", 5),
+                   ("a", "c", 6)]
+        of = blossom.Instance.from_graph(streets, "postman")
+        text = b"s OPTIMAL postman 26\nw 2 7 2 1 3 4 5 6 3\n"
+        answer = answer_of(of, 0, text)
+        self.assertEqual(
+            answer.edge_walk,
+            [("b", "a", 1), ("a", "b", 0), ("b", "c", 0), ("c", "c", 0), ("c", "a", 0),
+             ("a", "c", 1), ("c", "b", 0)],
+        )
+        self.assertEqual(answer.node_walk, list("babccacb"))
+        self.assertEqual(answer.edge_counts, [1, 1, 2, 1, 1, 1])
 
     def test_a_brief_refusal_has_no_barrier(self):
         with self.assertRaises(blossom.Infeasible) as told:

@@ -143,6 +143,9 @@ class GoesBack(unittest.TestCase):
             self.assertNotEqual(found, SETS, change.__name__)
             self.assertEqual(found, tuple(made_numbers(document, 4)))
 
+    def test_what_proves_nothing_does_not(self):
+        self.assertIsNone(document_of(SETS, "perfect", True).numbers_for(4))
+
     def test_to_a_graph_of_other_edges(self):
         document = document_of(SETS, "perfect")
         for edges in (2, 6):

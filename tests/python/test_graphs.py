@@ -25,6 +25,12 @@ class Forms(unittest.TestCase):
             with self.assertRaisesRegex(blossom.GraphError, "invalid edge"):
                 text([edge])
 
+    def test_columns_that_nobody_gave(self):
+        for graph, count in (([], 0), ({"u": [], "v": []}, 0), ([("a", "b"), ("b", "c")], 2)):
+            table = table_of(graph)
+            self.assertEqual((table.weights, table.capacities), ([1] * count, [None] * count))
+            self.assertEqual(table.edge_count, count)
+
     def test_no_weights_are_all_1(self):
         self.assertEqual(text([("a", "b", 8)], weight=None), "p edge 2 1\ne 1 2 1\n")
 
