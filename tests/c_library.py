@@ -12,6 +12,7 @@ import subprocess
 import c_arrays
 import c_compilers
 import c_edge
+import c_many_runs
 import c_structs
 import tables
 from c_header import CAPI
@@ -188,7 +189,8 @@ def check(program, tests):
     passed, failed, skipped = tests.passed, tests.failed, tests.skipped
     is_built = subprocess.run([os.path.join(CAPI, "build.sh"), "--is-built"]).returncode == 0
     library = Library() if is_built else None
-    for part in PARTS + c_edge.PARTS + c_arrays.PARTS + c_structs.PARTS + c_compilers.PARTS:
+    others = c_edge, c_arrays, c_structs, c_compilers, c_many_runs
+    for part in sum((one.PARTS for one in others), PARTS):
         try:
             if library is None:
                 raise Skipped("capi/out isn't of the present sources (capi/build.sh)")
