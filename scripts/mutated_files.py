@@ -113,7 +113,7 @@ def files(where, top=TOP):
     }[where]
     for pattern in patterns:
         for path in sorted(glob.glob(os.path.join(top, pattern), recursive=True)):
-            if not os.path.basename(path).startswith("muta"):
+            if not os.path.basename(path).startswith(("muta", "many_runs")):
                 yield os.path.relpath(path, top)
 
 

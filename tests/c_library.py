@@ -11,6 +11,7 @@ import random
 import c_arrays
 import c_compilers
 import c_edge
+import c_many_runs
 import c_structs
 import tables
 from c_parts import EDGE, KINDS, SOLVED, TOP, WORDS, Library, Skipped, is_built
@@ -186,7 +187,8 @@ def check(program, tests):
     """Adds these tests to `tests`. Prints the parts that were skipped, with the reason."""
     passed, failed, skipped = tests.passed, tests.failed, tests.skipped
     library = Library() if is_built() else None
-    for part in PARTS + c_edge.PARTS + c_arrays.PARTS + c_structs.PARTS + c_compilers.PARTS:
+    others = c_edge, c_arrays, c_structs, c_compilers, c_many_runs
+    for part in sum((one.PARTS for one in others), PARTS):
         try:
             if library is None:
                 raise Skipped("capi/out isn't of the present sources (capi/build.sh)")
