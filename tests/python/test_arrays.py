@@ -105,9 +105,9 @@ class Same(unittest.TestCase):
         for far in (3, 10**12):
             for more in ([], [(place, place + 1, 0) for place in range(5, 400)]):
                 rows = [(1, 2, 4), (2, 1, 5), (2, far, 6), *more]
-                table = table_of(self.columns(rows))
-                self.assertEqual(table.names_of([0, 1, 2]), [(1, 2, 0), (2, 1, 1), (2, far, 0)])
-                self.assertEqual(table.names[:3], table.names_of([0, 1, 2]))
+                for table in (table_of(self.columns(rows)), table_of(rows)):
+                    self.assertEqual(table.names_of([0, 1, 2]), [(1, 2, 0), (2, 1, 1), (2, far, 0)])
+                    self.assertEqual(table.names[:3], table.names_of([0, 1, 2]))
 
     def test_callers_may_change_their_columns_afterwards(self):
         pandas = wanted("pandas")
