@@ -44,8 +44,9 @@ def array_of(column: Any) -> Any:
 
 
 def is_number(column: Any) -> bool:
-    """Whether a column is a list of numbers in an array of numpy."""
-    return is_of_numpy(column) and column.ndim == 1 and column.dtype.kind in "iuf"
+    """Whether a column is a list of numbers in an array of numpy, of which none is masked."""
+    return (is_of_numpy(column) and column.ndim == 1 and column.dtype.kind in "iuf"
+            and not hasattr(column, "mask"))
 
 
 def within(column: Any, most: int) -> bool:

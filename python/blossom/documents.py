@@ -114,10 +114,9 @@ class Document:
 
 
 class TextDocument(Document):
-    """A document of a text. Lines of duals, once found to be ones, become numbers when somebody asks
-    for the duals.
+    """A document of a text. Its lines of duals become numbers when somebody asks for the duals.
 
-    dual_lines: one line or more each, in their order."""
+    dual_lines: one line or more each, in their order. They are known to be such lines."""
 
     def __init__(self, status: Status, kind: str, weight: Optional[int] = None) -> None:
         super().__init__(status, kind, weight)

@@ -146,12 +146,13 @@ def named(ends: Sequence[Tuple[Node, Node]]) -> List[EdgeName]:
 
 
 def plain_list(column: Any) -> List[Any]:
-    """A column as a list of Python's own values."""
+    """A column as a list of Python's own values. Entries that numpy masks are None."""
     if isinstance(column, list):
         return column
     kind = getattr(getattr(column, "dtype", None), "kind", "")
     if kind == "f" and column.dtype.itemsize < 8 and len(column.shape) == 1:
-        return list(map(float, map(str, column)))  # (as they print: 0.1 and not 0.10000000149)
+        # (as they print: 0.1 and not 0.10000000149)
+        return [None if hasattr(one, "mask") else float(str(one)) for one in column]
     values: List[Any] = (column.tolist() if hasattr(column, "tolist") and kind not in ("M", "m")
                          else list(column))
     return values

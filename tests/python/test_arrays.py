@@ -93,6 +93,21 @@ class Same(unittest.TestCase):
         frame = self.numpy.array([row[:2] for row in rows], "uint16")
         self.same((frame[:, 0], frame[:, 1]), [row[:2] for row in rows])
 
+    def test_entries_that_are_masked_are_missing(self):
+        masked = self.numpy.ma.array
+        ends, weights = self.numpy.array([1, 2, 3]), masked([4, 5, 6], mask=[0, 0, 1])
+        for hidden in (masked([2, 3, 4], mask=[0, 1, 0]), masked([2, 3, 4], "u4", mask=[0, 1, 0])):
+            for graph in ((ends, hidden), {"u": ends, "v": hidden}, (hidden, ends, ends)):
+                with self.assertRaisesRegex(blossom.GraphError, "missing edge end in row 1"):
+                    blossom.Instance.from_graph(graph, "match")
+        for column in (weights, weights.astype("float32"), weights.astype("float64")):
+            with self.assertRaisesRegex(blossom.WeightError, r"\(3, 4\) must be a finite.* None"):
+                blossom.Instance.from_graph((ends, ends + 1, column), "match")
+        of = blossom.Instance.from_graph((ends, ends + 1, ends, weights), "capmatch")
+        self.assertEqual(of.capacities, [4, 5, None])
+        shown = masked([1, 2, 3], mask=False)
+        self.same((shown, shown + 1, shown), [(1, 2, 1), (2, 3, 2), (3, 4, 3)])
+
     def test_names_of_single_edges(self):
         chance = random.Random(8)
         for nodes, count in ((range(3), 2), (range(12), 30), (range(300), 60), (range(300), 5000)):
@@ -105,9 +120,9 @@ class Same(unittest.TestCase):
         for far in (3, 10**12):
             for more in ([], [(place, place + 1, 0) for place in range(5, 400)]):
                 rows = [(1, 2, 4), (2, 1, 5), (2, far, 6), *more]
-                table = table_of(self.columns(rows))
-                self.assertEqual(table.names_of([0, 1, 2]), [(1, 2, 0), (2, 1, 1), (2, far, 0)])
-                self.assertEqual(table.names[:3], table.names_of([0, 1, 2]))
+                for table in (table_of(self.columns(rows)), table_of(rows)):
+                    self.assertEqual(table.names_of([0, 1, 2]), [(1, 2, 0), (2, 1, 1), (2, far, 0)])
+                    self.assertEqual(table.names[:3], table.names_of([0, 1, 2]))
 
     def test_callers_may_change_their_columns_afterwards(self):
         pandas = wanted("pandas")

@@ -439,6 +439,13 @@ class Documents(unittest.TestCase):
     def test_duals_on_several_lines(self):
         text = b"s OPTIMAL perfect 1\r\ny 1 2\r\ny 2 3\ny 6 -7\n\n y 3 4\ny 4 -6\ny 4 7\ny 5 0"
         self.assertEqual(read(text).duals, {1: 2, 2: 3, 6: -7, 3: 4, 4: 7, 5: 0})
+        for more, duals in (
+            (b"y 1 9\n", {1: 9, 2: 3}),
+            (b"c\ny 1 9\nc\ny 2 8\ny 4 7\n", {1: 9, 2: 8, 4: 7}),
+            (b"c\ny 1 9\nc\ny 1 6\n", {1: 6, 2: 3}),
+        ):
+            document = read(b"s OPTIMAL perfect 1\ny 1 2\ny 2 3\nc the later one counts\n" + more)
+            self.assertEqual((document.duals, list(document.duals)), (duals, list(duals)))
         for text, line in (
             (b"s OPTIMAL gallai 1\ny 1 2\ny 2 3\n", "y 1 2"),
             (b"s OPTIMAL perfect 1\ny 1 2\ny 2 3\ny 4 x\ny 5 6\n", "y 4 x"),

@@ -121,6 +121,16 @@ class Forms(unittest.TestCase):
                 blossom.Instance.from_graph(graph, "match", weight=None).weights, [1] * 4
             )
 
+    def test_no_edge_lacks_what_is_named(self):
+        networkx = wanted("networkx")
+        for graph in (networkx.Graph(), networkx.MultiGraph()):
+            graph.add_node("a")
+            of = blossom.Instance.from_graph(graph, "capmatch", weight="cost", capacity="limit")
+            self.assertEqual((of.nodes, of.edges, of.capacities), (["a"], [], []))
+            graph.add_edge("a", "b")
+            with self.assertRaisesRegex(blossom.GraphError, "no edge has 'limit'"):
+                blossom.Instance.from_graph(graph, "capmatch", capacity="limit")
+
     def test_a_graph_that_adds_what_is_looked_up_stays_as_it_is(self):
         networkx = wanted("networkx")
 

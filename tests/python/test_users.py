@@ -416,6 +416,14 @@ class NamesOfNetworkx(unittest.TestCase):
                 self.assertEqual(len(answer.mate), 2 * most)
                 self.assertTrue(answer.check() and greatest.check())
 
+    def test_a_scale_is_that_of_the_answer_and_not_of_its_certificate(self):
+        edges = [("a", "b", 0.5), ("b", "c", 1.5), ("c", "d", 0.5)]
+        answer = blossom.max_weight_matching(edges, maxcardinality=True, scale=2)
+        self.assertEqual((answer.weight, answer.instance.scale), (1, 2))
+        certificate = answer.certificate
+        self.assertEqual(certificate.instance.scale, 1)
+        self.assertEqual(certificate.dual_value, -2 * certificate.document.weight)
+
     def test_weights_that_differ_too_much(self):
         big = 10**12
         edges = [("a", "b", big), ("b", "c", -big), ("c", "d", big), ("d", "a", -big)]
