@@ -92,11 +92,10 @@ def commit(folder):
 
 
 def stand_in_checkout(folder, tests):
-    """A repository of these files, committed, with what was built here and a stamp that says that
-    its gate has passed."""
-    listed = subprocess.run(
-        ["git", "ls-files", "-z"], cwd=TOP, capture_output=True, check=True
-    ).stdout.split(b"\0")
+    """A repository of these files, but for those of dist/, committed, with what was built here and
+    a stamp that says that its gate has passed."""
+    words = ["git", "ls-files", "-z", "--", ".", ":(exclude)dist"]
+    listed = subprocess.run(words, cwd=TOP, capture_output=True, check=True).stdout.split(b"\0")
     for path in filter(None, map(os.fsdecode, listed)):
         os.makedirs(os.path.dirname(os.path.join(folder, path)), exist_ok=True)
         shutil.copy(os.path.join(TOP, path), os.path.join(folder, path))

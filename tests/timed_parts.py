@@ -3,6 +3,8 @@ small input."""
 import os
 import subprocess
 
+from c_parts import RELEASE
+
 PROGRAM = os.path.join(
     os.path.dirname(os.path.abspath(__file__)), "..", "crates", "timed_parts", "out", "timed_parts"
 )
@@ -35,6 +37,9 @@ ROWS = [
 
 
 def check(tests):
+    if RELEASE:
+        tests.skip("timed_parts", "a release doesn't have this program of the benches")
+        return
     for words, given, status, output in ROWS:
         done = subprocess.run(
             [PROGRAM] + words, input=given, capture_output=True, text=True, timeout=60
