@@ -4,6 +4,7 @@ too long; tests that fail without it are left out."""
 import ast
 import collections
 import glob
+import itertools
 import json
 import os
 import shutil
@@ -78,11 +79,21 @@ OF_SCRIPTS = {
     "clause_tools": "compare_clauses uncited_definitions",
     "release": "blossom_verify debian_package gate_stamp release",
 }
-OF_C = (
-    "c_structs.parts_of_answers c_structs.buffers_without_an_answer c_structs.c_plus_plus"
-    " c_structs.temporaries c_structs.example c_compilers.example c_compilers.numbers_and_types"
-    " c_compilers.header_in_c_plus_plus c_arrays.faults c_edge.statuses c_edge.no_such_call"
-    " c_edge.python_numbers c_edge.longest_answer c_edge.version"
+#: Which parts of the tests of the library for C are for which files; for the header all are, and
+#: others.
+OF_C = {
+    "parts.c": ["c_structs.parts_of_answers"],
+    "refused.c": ["c_structs.buffers_without_an_answer"],
+    "answers.cpp": ["c_structs.c_plus_plus"],
+    "temporaries.cpp": ["c_structs.temporaries"],
+    "example_arrays.c": ["c_structs.example"],
+    "example.c": ["c_compilers.example"],
+    "blossom.hpp": ["c_structs.c_plus_plus", "c_structs.temporaries"],
+}
+OF_HEADER = (
+    "c_compilers.numbers_and_types c_compilers.header_in_c_plus_plus c_arrays.faults"
+    " c_edge.statuses c_edge.no_such_call c_edge.python_numbers c_edge.longest_answer"
+    " c_edge.version"
 ).split()
 SECONDS = 240
 
@@ -236,7 +247,8 @@ def commands(where, body, text, copy):
                 for part in parts.split():
                     yield part, [sys.executable, "-c", PARTS, program, part]
     else:
-        for part in OF_C:
+        every = list(dict.fromkeys(sum(OF_C.values(), []))) + OF_HEADER
+        for part in OF_C.get(os.path.basename(body.file), every):
             yield part, [sys.executable, "-c", C_PARTS, program, part]
 
 
@@ -321,7 +333,8 @@ def tried(where, chance, count, program, only=(), done=0, kept=None):
     with tempfile.TemporaryDirectory(prefix="blossom-mutants-") as room:
         copy = Copy(room, os.path.abspath(program))
         copy.reached = all_reached(copy, kept) if where == "python" else {}
-        for body, change, text in list(readable_ones(where, chance, count, only))[done:]:
+        found = readable_ones(where, chance, count, only)
+        for body, change, text in itertools.islice(found, done, None):
             test = copy.noticed(where, body, change, text)
             lines = mutations.lines_of(text, change)
             verdict = "noticed" if test else "proved"

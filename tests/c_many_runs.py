@@ -137,8 +137,8 @@ def tallied(job):
     return tally
 
 
-def many(folder, count, seed, shown, processes=1):
-    """So many runs of a seed with the library in a folder."""
+def many(folder, count, seed, shown, processes=1, tell=lambda whole: None):
+    """So many runs of a seed with the library in a folder. `tell` is told what came so far."""
     whole = Tally()
     with tempfile.TemporaryDirectory() as room:
         made = compiled(room, folder)
@@ -149,6 +149,7 @@ def many(folder, count, seed, shown, processes=1):
         with concurrent.futures.ThreadPoolExecutor(processes) as executor:
             for tally in executor.map(tallied, jobs):
                 whole.add(tally)
+                tell(whole)
     return whole
 
 
@@ -172,15 +173,20 @@ def many_runs(program, library, tests):
     tests.compare("many runs: wrong answers are seen", b"", [True, True, True, False], seen)
 
 
+def so_far(tally):
+    print("%d runs, %d faults" % (tally.runs(), len(tally.faults)), flush=True)
+
+
 def main(folder, count=RUNS, seed=1, processes=1):
-    tally = many(folder, int(count), int(seed), SHOWN_BY_HAND, int(processes))
+    numbers = int(count), int(seed), SHOWN_BY_HAND, int(processes)
+    tally = many(folder, *numbers, so_far)
     for told in tally.faults:
         print("FAULT", told)
     for kind, counts in tally.by_kind.items():
         told = ["%d %d" % (status, counts[status]) for status in range(11) if counts[status]]
         print("%s: %s; by trying all %d" % (kind, ", ".join(told), counts["known"]))
     print("%d changed, %d calls compared in Python" % (tally.changed, tally.compared))
-    print("%d runs, %d faults" % (tally.runs(), len(tally.faults)))
+    so_far(tally)
     return 1 if tally.faults else 0
 
 

@@ -123,7 +123,7 @@ static void spoil(struct chance *chance, struct made *made) {
     case 4: made->values[v] = below(chance, 50) ? VALUES[below(chance, 5)] : 4096; break;
     case 5: *lengths[below(chance, 5)] += 1; break;
     case 6: *lengths[below(chance, 5)] = 0; break;
-    default: made->vertices += below(chance, 8) ? 1 : 4096; break;
+    default: made->vertices += below(chance, 8) ? 1 : 4097; break;
     }
 }
 
