@@ -86,8 +86,8 @@ OF_C = {
     "refused.c": ["c_structs.buffers_without_an_answer"],
     "answers.cpp": ["c_structs.c_plus_plus"],
     "temporaries.cpp": ["c_structs.temporaries"],
-    "example_arrays.c": ["c_structs.example"],
-    "example.c": ["c_compilers.example"],
+    "example_arrays.c": ["c_structs.example", "c_compilers.failing_examples"],
+    "example.c": ["c_compilers.example", "c_compilers.failing_examples"],
     "blossom.hpp": ["c_structs.c_plus_plus", "c_structs.temporaries"],
 }
 OF_HEADER = (
@@ -124,7 +124,7 @@ def files(where, top=TOP):
     }[where]
     for pattern in patterns:
         for path in sorted(glob.glob(os.path.join(top, pattern), recursive=True)):
-            if not os.path.basename(path).startswith(("muta", "many_runs")):
+            if not os.path.basename(path).startswith(("muta", "many_runs", "stand_in")):
                 yield os.path.relpath(path, top)
 
 

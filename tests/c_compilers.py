@@ -10,6 +10,7 @@ import tempfile
 from c_header import CAPI
 from c_parts import OUT, TRIANGLES, Skipped, run
 
+SOURCES = os.path.join(os.path.dirname(os.path.abspath(__file__)), "c_sources")
 STRICT = "-Wall -Wextra -pedantic -Werror -Wshadow -Wconversion -Wsign-conversion".split()
 C = ("CC", "cc", ["-std=c99", "-O2", *STRICT])
 C_PLUS_PLUS = ("CXX", "c++", [*STRICT, "-Wold-style-cast", "-Wzero-as-null-pointer-constant"])
@@ -91,6 +92,28 @@ def example(program, library, tests):
                 )
 
 
+def failing_examples(program, library, tests):
+    """Each example says what is wrong and ends with 1 if the library is of another version, and if
+    its calls run out of memory."""
+    abi, out_of_memory = library.header.abi, library.header.statuses["OUT_OF_MEMORY"]
+    compiler, words = found(C)
+    other = b"the library has version %d, its header %d: install both of one release\n"
+    for name, version, wanted in (
+        ("example.c", abi + 1, other % (abi + 1, abi)),
+        ("example_arrays.c", abi + 1, other % (abi + 1, abi)),
+        ("example.c", abi, b"out of memory\n"),
+        ("example_arrays.c", abi, b"status 8, index 0: out of memory\n"),
+    ):
+        told = ["-DVERSION=%d" % version, "-DSTATUS=%d" % out_of_memory, "-I" + CAPI]
+        sources = [os.path.join(CAPI, name), os.path.join(SOURCES, "stand_in.c")]
+        with tempfile.TemporaryDirectory() as room:
+            made = os.path.join(room, "made")
+            subprocess.run([compiler, *words, *told, *sources, "-o", made], check=True)
+            done = subprocess.run([made], capture_output=True, timeout=60)
+            got = done.returncode, done.stdout, done.stderr
+            tests.compare("%s with version %d" % (name, version), b"", (1, b"", wanted), got)
+
+
 #: The names of 1.0.0 that have another one now, and their numbers.
 OLD_NAMES = {"DONE": 0, "SHORT_BUFFER": 9, "NO_SUCH_CALL": 10, "SOLVE_BRIEFLY": 2}
 
@@ -165,4 +188,4 @@ def symbols(program, library, tests):
         )
 
 
-PARTS = (example, numbers_and_types, header_in_c_plus_plus, symbols)
+PARTS = (example, failing_examples, numbers_and_types, header_in_c_plus_plus, symbols)
