@@ -6,8 +6,8 @@ matplotlib and tqdm are used if you pass their objects or ask for them. In docs/
 [PYTHON.md](PYTHON.md) has a guide and then the reference. Its pieces run as they stand at the top
 of the checkout; a test runs them.
 
-From a checkout, `./blossom` builds the program once, and then `pip install ./python` (or
-`PYTHONPATH=python`) serves Python. pip needs no network.
+A checkout takes the program of `dist/` if that is of its sources; if not, `./blossom` builds it
+once. `pip install ./python` (or `PYTHONPATH=python`) serves Python. pip needs no network.
 
 Examples
 --------
