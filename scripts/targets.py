@@ -27,10 +27,10 @@ def released_sources():
 
 class Target:
     """What is built: of which crate, which files it is, and where they stand. others: what it is
-    made by, beside the sources of crates. links: other names of its files."""
+    made by, beside the sources of crates. copies: other names under which its files stand too."""
 
-    def __init__(self, crate, folder, names, others=(), links=()):
-        self.crate, self.names, self.others, self.links = crate, names, others, links
+    def __init__(self, crate, folder, names, others=(), copies=()):
+        self.crate, self.names, self.others, self.copies = crate, names, others, copies
         self.folder = os.path.join(TOP, folder)
         self.stamp = os.path.join(self.folder, "blossom.sources")
         self.noted = os.path.join(self.folder, "blossom.look")
@@ -57,8 +57,8 @@ class Target:
 
     def take_away(self):
         """Takes all of it away, the stamp last."""
-        links = [link for link, _ in self.links]
-        for path in [os.path.join(self.folder, name) for name in [*links, *self.names]]:
+        copies = [copy for copy, _ in self.copies]
+        for path in [os.path.join(self.folder, name) for name in [*copies, *self.names]]:
             with contextlib.suppress(FileNotFoundError):
                 os.remove(path)
         for path in (self.noted, self.stamp):
@@ -77,8 +77,9 @@ class Target:
         os.replace(self.stamp + ".new", self.stamp)
         for path, name in zip(fresh, self.names):
             os.replace(path, os.path.join(self.folder, name))
-        for link, name in self.links:
-            os.symlink(name, os.path.join(self.folder, link))
+        # (no symbolic links: `rt ci` refuses a checkout that has one)
+        for copy, name in self.copies:
+            shutil.copy(os.path.join(self.folder, name), os.path.join(self.folder, copy))
 
 
 TARGETS = {
