@@ -1,3 +1,4 @@
+mod even_paths;
 mod instances;
 mod odd_joins;
 mod parts;
