@@ -37,6 +37,8 @@
  * - A call ends. It reads and writes what it is given and memory that it allocates.
  * - Over arrays: which arrays are refused, by the first fault; all others get the answer to exactly
  *   this instance.
+ * - A buffer of BLOSSOM_SIZE_WITHOUT_PROOF(m) numbers is never too small for an answer without
+ *   proof on m edges.
  *
  * Tested: the shared library answers as the program does, byte for byte, and over arrays as over
  * texts; equal calls give equal answers; calls free the memory that they allocate.

@@ -9,5 +9,6 @@ pub mod OneSheet
 pub mod Alike
 pub mod Founds
 pub mod Briefs
+pub mod BriefSizes
 mod SetItems
 pub mod Sheets

@@ -104,6 +104,10 @@ IsBriefFor true numbers status.Malformed = Unit {0}
 IsBriefFor true numbers status.TooLarge = Unit {0}
 IsBriefFor true numbers status.OutOfMemory = Unit {0}
 
+-- how many numbers an answer without its certificate has at most, on so many edges
+abbrev pub size_without_proof : ℕ → ℕ
+size_without_proof edges = 9 + 2 * edges
+
 -- the same of the size alone, which may be past a limit
 abbrev pub GivesSize : Kind → Arrays → List ℤ → ArrayStatus → Type 0
 GivesSize kind a numbers status.Done =

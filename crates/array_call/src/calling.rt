@@ -1,7 +1,8 @@
-ghost use Rattle.std.specs.Prelude.{◌≡◌, [], ◌∷◌, pos, IfOk};
+ghost use Rattle.std.specs.Prelude.{◌≡◌, ◌≤◌, [], ◌∷◌, length, pos, true, IfOk};
 ghost use Rattle.kind_answers.specs.Settled.{SettlesFor};
-ghost use Rattle.array_call.specs.Arrays.{arrays_of, network_of};
+ghost use Rattle.array_call.specs.Arrays.{arrays_of, edge_count, network_of};
 ghost use Rattle.array_call.specs.Answers.{IsAnswerable, counted, fault_numbers, size_numbers};
+ghost use Rattle.array_call.specs.Answers.{size_without_proof};
 ghost use Rattle.array_call.specs.Answers.{Gives, GivesSize, IsBriefFor, CountsCall, CountsEnded};
 ghost use Rattle.array_call.specs.Checks.{GivesVerdict};
 ghost use Rattle.array_call.specs.Rules.{number_of_document_rule};
@@ -144,6 +145,10 @@ pub fn answer_to<L: Ledger>(
 
     // Without certificate there are no duals, no sets and no members of an obstruction.
     ensures brief { IsBriefFor brief result.numbers.items result.status }
+
+    // Without certificate there are at most 9 + 2m numbers for m edges, however the call ends.
+    ensures room { brief ≡ true → length result.numbers.items
+        ≤ size_without_proof (edge_count (arrays_of arrays.now)) }
 
     // Steps within the same bounds.
     ensures steps { CountsCall kind (arrays_of arrays.now) steps.old steps.new result.status }

@@ -1,11 +1,13 @@
 //! The calls over arrays.
-ghost use Rattle.std.specs.Prelude.{◌≡◌, ◌<◌};
+ghost use Rattle.std.specs.Prelude.{◌≡◌, ◌≢◌, ◌<◌, ◌≤◌, length, true};
 ghost use Rattle.array_call.specs.Arrays.{arrays_of};
-ghost use Rattle.array_call.specs.Answers.{Gives, GivesSize};
+ghost use Rattle.array_call.specs.Answers.{Gives, GivesSize, size_without_proof};
 ghost use Rattle.array_call.specs.Checks.{GivesVerdict};
 ghost use Rattle.blossom_c.specs.ArrayEndings.{HandsOver, Ends, EndsSolving, EndsSizing};
 ghost use Rattle.blossom_c.specs.ArrayEndings.{EndsChecking, TellsSolving, TellsSizing};
-ghost use Rattle.blossom_c.specs.ArrayEndings.{TellsChecking};
+ghost use Rattle.blossom_c.specs.ArrayEndings.{TellsChecking, number_of_array_ending};
+ghost use Rattle.blossom_c.specs.ArrayEndings.{number_of_solving};
+ghost use Rattle.blossom_c.specs.declared.array_ending.ArrayEnding.TheVariants.{ShortBuffer};
 
 use crate::array_ending::ArrayEnding;
 use crate::buffer::put_numbers;
@@ -159,7 +161,7 @@ pub extern "C" fn blossom_solve_arrays(
     used: &mut usize,
 ) -> u32
     // The same for an answer in numbers.
-    ensures { TellsSolving task kind (record {
+    ensures told { TellsSolving task kind (record {
       vertices = vertices;
       from = from.now;
       to = to.now;
@@ -167,6 +169,11 @@ pub extern "C" fn blossom_solve_arrays(
       capacities = capacities.now;
       values = values.now;
     }) output.old output.new used.new result }
+
+    // Without certificate a buffer of 9 + 2m numbers is never too small for m edges.
+    ensures room { task ≡ number_of_solving true
+        → size_without_proof (length from.now) ≤ length output.old
+        → result ≢ number_of_array_ending ShortBuffer }
 {
     let arrays = InstanceArrays {
         vertices,

@@ -18,7 +18,7 @@ use Rattle.kind_answers.specs.declared.limits.TheConstants.{PATHS_BYTE_LIMIT}
 use Rattle.kind_answers.proofs.Excluding.{has-line, up_to-pos, few-vertices}
 use Rattle.kind_answers.proofs.InRange.{all_up_to, counts_in, paths_in}
 use Rattle.kind_answers.proofs.LineSizes.{count-size, members-size, path-size, head-size, few_members}
-use Rattle.kind_answers.proofs.SettlingSets.{none_if}
+use Rattle.kind_answers.proofs.SettlingSets.{none_if, short-none}
 use Rattle.kind_answers.proofs.SettlingSets.{no-weights}
 use Rattle.kind_answers.proofs.Short.{lines-size, line-size, document-size}
 use Rattle.kind_answers.proofs.Texts.{size-append}
@@ -237,6 +237,7 @@ module _ (i : Network) (found : Decomposition) (d : Document) (network : IsNetwo
       truth = proved_true decide loops Gallai i d network (searched-graph i network) (reached i) proved-greatest;
       exact = subst (HasTrueStatus Gallai i) (sym p.status) ((answer_of Gallai i d, feasible), fit i);
       chosen = chosen-greatest;
+      short_walk = short-none i d (ap (λ (b : Body). b.walk) p.only);
       small = short-greatest;
     },
     record { duals = ap (λ (b : Body). b.duals) p.only; sets = ap (λ (b : Body). b.sets) p.only },

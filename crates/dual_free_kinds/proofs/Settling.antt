@@ -17,7 +17,7 @@ use Rattle.kind_answers.proofs.Excluding.{has-line, up_to-pos, few-vertices}
 use Rattle.kind_answers.proofs.InRange.{all_up_to, counts_in}
 use Rattle.kind_answers.proofs.LineSizes.{count-size, members-size, head-size}
 use Rattle.kind_answers.proofs.PartDocuments.{settles-barred}
-use Rattle.kind_answers.proofs.SettlingSets.{none_if}
+use Rattle.kind_answers.proofs.SettlingSets.{none_if, short-none}
 use Rattle.kind_answers.proofs.SettlingSets.{no-weights}
 use Rattle.kind_answers.proofs.SettlingSets.{bare-set}
 use Rattle.kind_answers.proofs.Short.{lines-size, line-size, short-document}
@@ -139,6 +139,7 @@ module _ (i : Network) (set : List ℕ) (d : Document) (w : ℤ) (network : IsNe
       truth = proved_true-pathless Bottleneck i d (λ paths. absurd (cc)) network (plain-graph i network) (reached i network) proved-lightest;
       exact = subst (HasTrueStatus Bottleneck i) (sym p.status) ((Counts p.counts, p.perfect), fit i);
       chosen = chosen-lightest;
+      short_walk = short-none i d (ap (λ (b : Body). b.walk) p.only);
       small = short-lightest;
     },
     record { duals = ap (λ (b : Body). b.duals) p.only; sets = ap (λ (b : Body). b.sets) p.only },

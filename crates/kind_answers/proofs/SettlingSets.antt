@@ -1,10 +1,10 @@
 -- The document of a set that excludes all answers settles an instance, without duals and sets.
-use Rattle.certificates.proofs.Common.{◌≡◌, ℕ, ◌≤◌, true, List, [], Option, None, IfSome, refl, sym, ap, ◌∙◌, subst, true≢false, false, GRAPH_VERTEX_LIMIT, Kind, Exclusion, Barrier}
+use Rattle.certificates.proofs.Common.{◌≡◌, ℕ, ◌*◌, ◌≤◌, true, List, [], length, Option, None, IfSome, refl, sym, ap, ◌∙◌, subst, true≢false, false, GRAPH_VERTEX_LIMIT, Kind, Exclusion, Barrier}
 use Rattle.certificates.proofs.Common.{OddPart, SplitPart, Never, exclusion_of, asks_conservative, HasNoNegativeEvenSet, Network, IsNetwork, gadget_graph, Document, DocStatus}
 use Rattle.certificates.proofs.Common.{MemberLine, is_barrier, is_never, Body, HasNoAnswer, StatesTruthBy}
 use Rattle.document_lines.specs.Lines.{member_line}
 use Rattle.kind_answers.specs.Excluding.{set_body, StatesSet}
-use Rattle.kind_answers.specs.Settled.{Settles, IsBare}
+use Rattle.kind_answers.specs.Settled.{Settles, IsBare, HasShortWalk}
 use Rattle.kind_answers.specs.Solved.{HasTrueStatus, HasFitWeights}
 use Rattle.kind_answers.proofs.Excluding.{Excludes, few-excluding, proved-infeasible, none-feasible, chosen-infeasible}
 use Rattle.kind_answers.proofs.ShortSets.{short-infeasible}
@@ -15,6 +15,16 @@ none_if P x h = rw h tt
 -- a kind that doesn't ask for conservative weights asks for nothing
 pub no-weights : (kind : Kind) (i : Network) → asks_conservative kind ≡ false → HasFitWeights kind i × (asks_conservative kind ≡ true → HasNoNegativeEvenSet i)
 no-weights kind i never = (λ asks. absurd (true≢false (sym asks ∙ never)), λ asks. absurd (true≢false (sym asks ∙ never)))
+
+no-walk : (e : Exclusion) (u : MemberLine) → (set_body e u).walk ≡ None
+no-walk Barrier u = refl
+no-walk OddPart u = refl
+no-walk SplitPart u = refl
+no-walk Never u = refl
+
+-- a document without a walk has no long one
+pub short-none : (i : Network) (d : Document) → d.walk ≡ None → HasShortWalk i d
+short-none i d none = none_if (λ w. length w.edges ≤ 2 * length i.edges) d.walk none
 
 pub settles-infeasible : (kind : Kind) (i : Network) (set : List ℕ) (d : Document) → IsNetwork i → is_never (exclusion_of kind) ≡ false →
     (is_barrier (exclusion_of kind) ≡ true → (gadget_graph kind i).vertices ≤ GRAPH_VERTEX_LIMIT) → (is_barrier (exclusion_of kind) ≡ true → HasNoAnswer kind i)
@@ -27,6 +37,7 @@ settles-infeasible kind i set d network never few barred fit x p =
       truth = subst (λ (t : DocStatus). StatesTruthBy t kind i d) (sym p.status) none;
       exact = subst (HasTrueStatus kind i) (sym p.status) (none, fit);
       chosen = chosen-infeasible kind i set d x p;
+      short_walk = short-none i d (ap (λ (b : Body). b.walk) p.body ∙ no-walk (exclusion_of kind) (member_line set));
       small = short-infeasible kind set d (few-excluding (exclusion_of kind) kind i set network few x) p;
     }
 

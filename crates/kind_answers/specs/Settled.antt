@@ -1,5 +1,6 @@
 -- What is promised of a document, and what is known if there is none yet.
-use Rattle.std.specs.Prelude.{◌≡◌, ℕ, ◌≤◌, ◌^◌, length, Bool, true, false, [], Option, None, Some}
+use Rattle.std.specs.Prelude.{◌≡◌, ℕ, ◌*◌, ◌≤◌, ◌^◌, length, Bool, true, false, [], Option, None, Some}
+use Rattle.std.specs.Prelude.{IfSome}
 use Rattle.mb_problem.specs.declared.kind.Kind.{Kind}
 use Rattle.mb_problem.specs.Joins.{HasNoNegativeEvenSet}
 use Rattle.mb_problem.specs.declared.kind.BestProof.{BestProof}
@@ -22,12 +23,17 @@ byte_limit_by OuterPaths = 2 ^ 27
 abbrev pub byte_limit_of : Kind → ℕ
 byte_limit_of kind = byte_limit_by (proof_of kind)
 
+-- the walk of a document, if it has one, has at most twice as many edges as the instance
+abbrev pub HasShortWalk : Network → Document → Type 0
+HasShortWalk i d = IfSome d.walk (λ w. length w.edges ≤ 2 * length i.edges)
+
 -- the document proves what it states, which is true
 pub record Settles (kind : Kind) (i : Network) (d : Document) : Type 0 where
   pub proved : IsProved kind i d
   pub truth : StatesTruth kind i d
   pub exact : HasTrueStatus kind i d.status
   pub chosen : IsChosen kind i d
+  pub short_walk : HasShortWalk i d
   pub small : length (document_text d false) ≤ byte_limit_of kind
 
 -- no duals and no sets

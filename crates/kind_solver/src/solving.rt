@@ -8,7 +8,7 @@ ghost use Rattle.doc_format.specs.declared.status.DocStatus.TheVariants.{Infeasi
 ghost use Rattle.certificates.specs.Proved.{IsProved, StatesTruth};
 ghost use Rattle.mwpm_engine.specs.Solutions.{most_steps};
 ghost use Rattle.kind_answers.specs.Chosen.{IsChosen};
-ghost use Rattle.kind_answers.specs.Settled.{IsWrittenFor, SettlesFor, byte_limit_of};
+ghost use Rattle.kind_answers.specs.Settled.{HasShortWalk, IsWrittenFor, SettlesFor, byte_limit_of};
 ghost use Rattle.kind_answers.specs.Solved.{HasTrueStatus, is_tested_first};
 
 use doc_format::Document;
@@ -52,6 +52,9 @@ pub fn solve<L: Ledger>(
     // of `bottleneck` exactly if there is a vertex.
     ensures chosen { IfOk result (IsChosen kind instance.now) }
     ensures small { IfOk result (λ d. length (document_text d false) ≤ byte_limit_of kind) }
+
+    // A walk has at most twice as many edges as the instance.
+    ensures short_walk { IfOk result (HasShortWalk instance.now) }
 
     // Within the steps of one search, two for a path if some weight is negative and 17 for a
     // bottleneck.

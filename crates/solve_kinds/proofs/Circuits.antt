@@ -17,7 +17,7 @@ use Rattle.kind_answers.proofs.InRange.{walk_in}
 use Rattle.kind_answers.proofs.LineSizes.{head_circuit-size}
 use Rattle.kind_answers.proofs.SettlingSets.{none_if}
 use Rattle.kind_answers.proofs.Short.{IsShortLine, line-size, short-document}
-use Rattle.solve_kinds.proofs.ShortDocuments.{short-walk}
+use Rattle.solve_kinds.proofs.ShortDocuments.{short-walk, short-line}
 use Rattle.solve_kinds.proofs.WalkLines.{walk-within}
 use Rattle.mb_problem.specs.declared.kind.AnswerForm.TheVariants as form
 use Rattle.mb_problem.specs.declared.answer.Answer.TheVariants as answers
@@ -74,6 +74,7 @@ settles kind i start edges d asks network circuit negative p =
         once = none-named (sets_of d) (ap (λ (b : Body). map set_of b.sets) p.body);
         beside = λ k best. absurd (let same = sym p.status ∙ best in cc);
       };
+      short_walk = short-line i (answers.Walk start edges) d.walk walk (omega (arith, size));
       small = short-document kind d (rw (p.status, p.kind_is) (head_circuit-size kind d.weight)) (omega (arith, text, same));
     }
 

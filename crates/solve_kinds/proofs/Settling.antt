@@ -13,7 +13,7 @@ use Rattle.kind_answers.specs.Solved.{HasTrueStatus, HasFitWeights}
 use Rattle.solve_kinds.proofs.Forms.{form-completed}
 use Rattle.kind_answers.proofs.InRange.{sets-formed}
 use Rattle.solve_kinds.proofs.Presenting.{Solves, proved-optimal, chosen-optimal}
-use Rattle.solve_kinds.proofs.ShortDocuments.{short-optimal}
+use Rattle.solve_kinds.proofs.ShortDocuments.{short-line, short-optimal}
 use Rattle.solve_kinds.proofs.SolvedSets.{solved-lines}
 
 pub settles-optimal : (kind : Kind) (i : Network) (s : Solution) (d : Document) → s.graph.vertices ≤ GRAPH_VERTEX_LIMIT → HasFitWeights kind i → Solves kind i s →
@@ -25,6 +25,7 @@ settles-optimal kind i s d few fit of p =
       truth = proved_true-pathless kind i d (λ paths. absurd (true≢false (sym of.duals ∙ ap are_duals paths))) of.network of.is_graph of.reached proved;
       exact = subst (HasTrueStatus kind i) (sym p.states.status) ((p.states.answer, p.states.feasible), fit);
       chosen = chosen-optimal kind i s d of.duals p;
+      short_walk = short-line i p.states.answer d.walk p.states.walk p.states.few_steps;
       small = short-optimal kind i s d of.network few of.solved p;
     }
 

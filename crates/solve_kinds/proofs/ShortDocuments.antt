@@ -1,7 +1,7 @@
 -- Computed documents are short.
-use Rattle.certificates.proofs.Common.{◌≡◌, ℕ, ◌+◌, ◌-◌, ◌/◌, ◌*◌, ◌≤◌, pos, false, List, [], ◌++◌, length, map, get_or, All, IfSome, sym, ap}
+use Rattle.certificates.proofs.Common.{◌≡◌, ℕ, ◌+◌, ◌-◌, ◌/◌, ◌*◌, ◌≤◌, pos, false, List, [], ◌++◌, length, map, get_or, All, Option, IfSome, sym, ap}
 use Rattle.certificates.proofs.Common.{◌∙◌, subst, arith, length-map, get_or_default, All-weaker, All-from_get_or, GRAPH_VERTEX_LIMIT, Kind}
-use Rattle.certificates.proofs.Common.{Answer, Network, IsNetwork, vertices, Document, DualLine, SetLine, Count, Dual, Set, Body, at_most_one, parts_of}
+use Rattle.certificates.proofs.Common.{Answer, Network, IsNetwork, vertices, Document, WalkLine, DualLine, SetLine, Count, Dual, Set, Body, at_most_one, parts_of}
 use Rattle.certificates.proofs.Common.{body_of, row_text, part_row, parts_text, document_text, IsCountWithin, IsDualWithin, AreSetLinesWithin, IsWalkWithin}
 use Rattle.doc_format.specs.declared.part.Part.TheVariants.{Walk}
 use Rattle.mwpm_engine.specs.Solutions.{Solution, IsSolved}
@@ -26,6 +26,11 @@ answer-walk : (i : Network) (answer : Answer) → IsNetwork i → HasFewSteps i 
 answer-walk i (answers.Counts counts) network few within = tt
 answer-walk i (answers.Walk start edges) network few within = short-walk (vertices i) (length i.edges) start edges network.few_vertices network.few_edges few within
 answer-walk i answers.Nothing network few within = tt
+
+pub short-line : (i : Network) (answer : Answer) (line : Option WalkLine) → line ≡ line_of answer → HasFewSteps i answer → IfSome line (λ w. length w.edges ≤ 2 * length i.edges)
+short-line i (answers.Counts counts) line is few = rw is tt
+short-line i (answers.Walk start edges) line is few = rw is (let same = length-map edges pos in omega (arith, same, few))
+short-line i answers.Nothing line is few = rw is tt
 
 -- each line refers to fewer lines than there are vertices
 short-sets : (n : ℕ) (lines : List SetLine) → length lines ≤ GRAPH_VERTEX_LIMIT → AreSetLinesWithin n lines → All (IsSetShort n) lines
