@@ -92,8 +92,8 @@ pub use Rattle.gadget_base.proofs.Links.{perfect-reached, plain-graph, plain-len
 pub use Rattle.gadget_base.proofs.Listed.{few-steps, list-weight, list_from_perfect, times_each-length, weight_of_list}
 pub use Rattle.gadget_base.proofs.Times.{differ-once}
 pub use Rattle.gadget_base.specs.Blocks.{tabled}
-pub use Rattle.gadget_base.specs.Certified.{IsPerfectList, IsReached, ReachesAll, gadget_graph, graph_by}
-pub use Rattle.gadget_base.specs.Gadgets.{ports_graph}
+pub use Rattle.gadget_base.specs.Certified.{IsPerfectList, IsReached, ReachesAll, gadget_graph}
+pub use Rattle.gadget_base.specs.Gadgets.{graph_by, ports_graph}
 pub use Rattle.gadget_base.specs.Lighter.{lighter_than}
 pub use Rattle.gadget_base.specs.Links.{links_below, with_loops}
 pub use Rattle.gadget_base.specs.Listed.{ListsCounts, times, times_each}

@@ -4,8 +4,9 @@ ghost use Rattle.graph_theory.specs.Limits.{IsWithinLimits, HasSize};
 ghost use Rattle.mb_problem.specs.declared.kind.Kind.TheVariants.{Perfect};
 ghost use Rattle.mb_problem.specs.Network.{IsNetwork, plain_graph};
 ghost use Rattle.mb_problem.specs.Ready.{HasNeededWeights};
-ghost use Rattle.mb_problem.specs.Size.{size_of, certified_size};
-ghost use Rattle.gadget_base.specs.Certified.{gadget_graph, ReachesAll};
+ghost use Rattle.mb_problem.specs.Size.{size_by, size_of, certified_by, certified_size};
+ghost use Rattle.gadget_base.specs.Certified.{gadget_graph, ReachesAll, ReachesAllBy};
+ghost use Rattle.gadget_base.specs.Gadgets.{graph_by};
 
 use gadget_base::unweighted;
 use gadget_cap::capped;
@@ -15,7 +16,7 @@ use gadget_parity::parity;
 use gadget_tjoin::ports;
 use graph_theory::GRAPH_VERTEX_LIMIT;
 use mb_base::OutOfMemory;
-use mb_problem::{GadgetForm, Instance, Kind, Parity, VERTEX_LIMIT, size_by};
+use mb_problem::{Capacities, GadgetForm, Instance, Kind, Parity, VERTEX_LIMIT, certified_size};
 use std::alloc::Global;
 use weighted_graph::Graph;
 
@@ -25,10 +26,7 @@ pub fn certified_vertices(instance: &Instance, kind: Kind) -> u32
     ensures count { result ≡ (gadget_graph kind instance.now).vertices }
     ensures few { result ≤ GRAPH_VERTEX_LIMIT }
 {
-    let (vertices, _) = match kind.gadget() {
-        GadgetForm::PathPorts => size_by(instance, GadgetForm::Ports(Parity::Values)),
-        gadget => size_by(instance, gadget),
-    };
+    let (vertices, _) = certified_size(instance, kind);
     vertices as u32
 }
 
@@ -43,31 +41,27 @@ fn plain(instance: &Instance) -> Result<Graph, OutOfMemory>
     instance.plain()
 }
 
-/// That graph, by the builder that knows the kind's answers.
-fn build(alloc: Global, instance: &Instance, kind: Kind) -> Result<Graph, OutOfMemory>
-    requires limits { IsWithinLimits (size_of kind instance.now) }
-    requires weights { HasNeededWeights kind instance.now }
-    ensures graph { IfOk result (λ h. h ≡ gadget_graph kind instance.now) }
-    ensures size { IfOk result (HasSize (certified_size kind instance.now)) }
+/// The graph that is built so, by the builder that knows the answers of its kinds.
+fn build(alloc: Global, instance: &Instance, gadget: GadgetForm) -> Result<Graph, OutOfMemory>
+    requires limits { IsWithinLimits (size_by gadget instance.now) }
+    ensures graph { IfOk result (λ h. h ≡ graph_by gadget instance.now) }
+    ensures size { IfOk result (HasSize (certified_by gadget instance.now)) }
     ensures plain { IfOk result HasNoLoop }
-    ensures reached { IfOk result (λ h. ReachesAll kind instance.now) }
+    ensures reached { ReachesAllBy gadget instance.now }
     ensures network { IsNetwork instance.now }
 {
     prove!(instance.vertices() <= VERTEX_LIMIT);
-    match kind {
-        Kind::Perfect => plain(instance),
-        Kind::Bottleneck => plain(instance),
-        Kind::Match => double(alloc, instance),
-        Kind::BMatch => copies(alloc, instance),
-        Kind::CapMatch => capped(alloc, instance, false),
-        Kind::FFactor => capped(alloc, instance, true),
-        Kind::TJoin => ports(alloc, instance, &Parity::Values),
-        Kind::Postman => ports(alloc, instance, &Parity::OddDegrees),
-        Kind::Path => ports(alloc, instance, &Parity::Values),
-        Kind::Interval => interval(alloc, instance),
-        Kind::OddPath => parity(alloc, instance, true),
-        Kind::EvenPath => parity(alloc, instance, false),
-        Kind::Gallai => unweighted(alloc, instance),
+    match gadget {
+        GadgetForm::Itself => plain(instance),
+        GadgetForm::Doubled => double(alloc, instance),
+        GadgetForm::Copies => copies(alloc, instance),
+        GadgetForm::Capped(Capacities::Own) => capped(alloc, instance, false),
+        GadgetForm::Capped(Capacities::Unit) => capped(alloc, instance, true),
+        GadgetForm::Ports(parity) => ports(alloc, instance, &parity),
+        GadgetForm::PathPorts => ports(alloc, instance, &Parity::Values),
+        GadgetForm::Halves => interval(alloc, instance),
+        GadgetForm::Sides { odd } => parity(alloc, instance, odd),
+        GadgetForm::Unweighted => unweighted(alloc, instance),
     }
 }
 
@@ -92,7 +86,7 @@ pub fn certified(alloc: Global, instance: &Instance, kind: Kind) -> Result<Graph
     ensures good { IfOk result (λ h. IsGraph (gadget_graph kind instance.now)) }
     ensures network { IsNetwork instance.now }
 {
-    let graph = build(alloc, instance, kind)?;
+    let graph = build(alloc, instance, kind.gadget())?;
     prove!(graph.vertices() <= GRAPH_VERTEX_LIMIT);
     Ok(graph)
 }

@@ -20,7 +20,8 @@ pub use Rattle.gadget_base.proofs.Used.{degree-used, loop-unused, use_at, use_at
 pub use Rattle.gadget_base.proofs.Within.{All-two, IsProper, clique-proper, copies-inside, copies-no_loop, copies-within, copies_size, doubled-no_loop, doubled-within, doubled_size}
 pub use Rattle.gadget_base.proofs.Within.{edge_here, pairs-length, place_here, proper, rectangle-proper}
 pub use Rattle.gadget_base.specs.Blocks.{blocks, clique, rectangle, row, tabled}
-pub use Rattle.gadget_base.specs.Certified.{IsMatchable, IsPerfectList, IsReached, IsReachedBy, ReachesAll, gadget_graph, graph_by}
+pub use Rattle.gadget_base.specs.Certified.{IsMatchable, IsPerfectList, IsReached, IsReachedBy, ReachesAll, ReachesAllBy, gadget_graph}
+pub use Rattle.gadget_base.specs.Gadgets.{graph_by}
 pub use Rattle.gadget_base.specs.Gadgets.{before_gates, between_ports, between_sides, capped_graph, copies_graph, doubled_graph, gated, half_graph, halves_graph, met_below, moved}
 pub use Rattle.gadget_base.specs.Gadgets.{moved_edge, pairs_of_copies, place_in, port_of, ports_below, ports_graph, side_edge, sides_graph, spare_pair, to_copy, two_copies, values_below}
 pub use Rattle.gadget_base.specs.Lighter.{lighter_than}

@@ -1,37 +1,18 @@
 -- The certificate graph of a kind, and what its perfect matchings say of the instance.
 use Rattle.std.specs.Prelude.{◌≡◌, ℕ, ◌≤◌, pos, ◌*ℤ◌, ◌≤ℤ◌, ⊤, List, All, count_by}
 use Rattle.graph_theory.specs.Graph.{Multigraph, weight, IsPerfect, IsEdgeNumber, edge_of, touches}
-use Rattle.outer_sets.specs.Decomposition.{unweighted}
 use Rattle.mb_problem.specs.declared.kind.Kind.{Kind}
 use Rattle.mb_problem.specs.declared.kind.BestProof.{BestProof}
 use Rattle.mb_problem.specs.declared.kind.BestProof.TheVariants.{Duals, LighterBarrier}
 use Rattle.mb_problem.specs.declared.kind.BestProof.TheVariants.{OuterPaths}
 use Rattle.mb_problem.specs.declared.answer.Answer.{Answer}
-use Rattle.mb_problem.specs.declared.answer.Parity.TheVariants.{Values}
 use Rattle.mb_problem.specs.declared.gadget.GadgetForm.{GadgetForm}
-use Rattle.mb_problem.specs.declared.gadget.GadgetForm.TheVariants.{Itself, Doubled, Copies, Capped}
-use Rattle.mb_problem.specs.declared.gadget.GadgetForm.TheVariants.{Ports, PathPorts, Halves, Sides}
-use Rattle.mb_problem.specs.declared.gadget.GadgetForm.TheVariants.{Unweighted}
-use Rattle.mb_problem.specs.Network.{Network, plain_graph}
+use Rattle.mb_problem.specs.Network.{Network}
 use Rattle.mb_problem.specs.Kinds.{gadget_of, proof_of}
 use Rattle.mb_problem.specs.Feasible.{IsFeasible, weight_of}
-use Rattle.mb_problem.specs.Size.{room_by, odd_at, in_first, in_second}
+use Rattle.mb_problem.specs.Ready.{HasNeededWeights}
 use Rattle.mb_problem.specs.Values.{value_for}
-use Rattle.gadget_base.specs.Gadgets.{doubled_graph, copies_graph, capped_graph, ports_graph}
-use Rattle.gadget_base.specs.Gadgets.{halves_graph, sides_graph}
-
--- the graph that is built so; a path's duals are those of the graph for joins that are odd at its
--- two ends
-abbrev pub graph_by : GadgetForm → Network → Multigraph
-graph_by Itself i = plain_graph i
-graph_by Doubled i = doubled_graph i
-graph_by Copies i = copies_graph i
-graph_by (Capped capacities) i = capped_graph i (room_by capacities i)
-graph_by (Ports parity) i = ports_graph i (odd_at parity i)
-graph_by PathPorts i = ports_graph i (odd_at Values i)
-graph_by Halves i = halves_graph i
-graph_by (Sides odd) i = sides_graph (in_first odd i) (in_second odd i) i
-graph_by Unweighted i = unweighted (plain_graph i)
+use Rattle.gadget_base.specs.Gadgets.{graph_by}
 
 abbrev pub gadget_graph : Kind → Network → Multigraph
 gadget_graph kind i = graph_by (gadget_of kind) i
@@ -59,6 +40,11 @@ IsReachedBy OuterPaths kind i answer = ⊤
 abbrev pub ReachesAll : Kind → Network → Type 0
 ReachesAll kind i = (answer : Answer) → IsFeasible kind i answer
     → IsReachedBy (proof_of kind) kind i answer
+
+-- the same of each kind whose graph is built so, if the weights are those that the kind needs
+abbrev pub ReachesAllBy : GadgetForm → Network → Type 0
+ReachesAllBy gadget i = (kind : Kind) → gadget_of kind ≡ gadget → HasNeededWeights kind i
+    → ReachesAll kind i
 
 -- a perfect matching (chapter 24) as a list of numbers of edges: each vertex is an end of exactly
 -- one of them

@@ -6,9 +6,17 @@ use Rattle.std.specs.Prelude.{slice_index, map, Bool, ◌&&◌, if◌then◌else
 use Rattle.graph_theory.specs.declared.edge.Edge.{Edge}
 use Rattle.graph_theory.specs.Sums.{sum_to}
 use Rattle.graph_theory.specs.Graph.{Multigraph, ends_at}
+use Rattle.outer_sets.specs.Decomposition.{unweighted}
+use Rattle.mb_problem.specs.declared.answer.Parity.TheVariants.{Values}
+use Rattle.mb_problem.specs.declared.gadget.GadgetForm.{GadgetForm}
+use Rattle.mb_problem.specs.declared.gadget.GadgetForm.TheVariants.{Itself, Doubled, Copies, Capped}
+use Rattle.mb_problem.specs.declared.gadget.GadgetForm.TheVariants.{Ports, PathPorts, Halves, Sides}
+use Rattle.mb_problem.specs.declared.gadget.GadgetForm.TheVariants.{Unweighted}
 use Rattle.mb_problem.specs.Network.{Network, vertices, plain, instance_edge_at, low_of, at_most}
+use Rattle.mb_problem.specs.Network.{plain_graph}
 use Rattle.mb_problem.specs.Size.{value_total, value_u, value_v, port_count, is_loop_at}
 use Rattle.mb_problem.specs.Size.{room_of, spare_copies, standing, joins}
+use Rattle.mb_problem.specs.Size.{room_by, odd_at, in_first, in_second}
 use Rattle.gadget_base.specs.Blocks.{blocks, tabled, rectangle, clique}
 
 -- two copies of edge number k + 1 with its weight turned round, if it isn't a loop: between its
@@ -166,3 +174,16 @@ ports_graph i odd = record {
   edges = tabled (between_ports i odd) (length i.edges) ++ blocks
       (λ k. clique (ports_below i odd (k + 1)) (port_count i odd (k + 1)) (pos 0)) (vertices i);
 }
+
+-- the graph that is built so; a path's duals are those of the graph for joins that are odd at its
+-- two ends
+abbrev pub graph_by : GadgetForm → Network → Multigraph
+graph_by Itself i = plain_graph i
+graph_by Doubled i = doubled_graph i
+graph_by Copies i = copies_graph i
+graph_by (Capped capacities) i = capped_graph i (room_by capacities i)
+graph_by (Ports parity) i = ports_graph i (odd_at parity i)
+graph_by PathPorts i = ports_graph i (odd_at Values i)
+graph_by Halves i = halves_graph i
+graph_by (Sides odd) i = sides_graph (in_first odd i) (in_second odd i) i
+graph_by Unweighted i = unweighted (plain_graph i)

@@ -12,7 +12,7 @@ use gadget_cap::extract;
 use gadget_interval::extract as extract_halves;
 use gadget_match::{extract_copies, extract_double};
 use mb_base::{EdgeId, OutOfMemory};
-use mb_problem::{Answer, Instance, Kind};
+use mb_problem::{Answer, AnswerForm, Capacities, GadgetForm, Instance, Kind};
 use std::alloc::Global;
 
 /// The answer that a perfect matching of the kind's graph stands for, given as the numbers of its
@@ -35,19 +35,18 @@ pub fn answer(
     requires perfect { IsPerfectList (gadget_graph kind instance.now) edges.now }
     ensures { IfOk result (IsAnswerTo kind instance.now edges.now) }
 {
-    match kind {
-        Kind::Perfect => extract_plain(alloc, instance, edges),
-        Kind::Match => extract_double(alloc, instance, edges),
-        Kind::BMatch => extract_copies(alloc, instance, edges),
-        Kind::CapMatch => extract(alloc, instance, false, edges),
-        Kind::FFactor => extract(alloc, instance, true, edges),
-        Kind::TJoin => extract_join(alloc, instance, edges),
-        Kind::Postman => extract_tour(alloc, instance, edges),
-        Kind::Path => extract_path(alloc, instance, edges),
-        Kind::Interval => extract_halves(alloc, instance, edges),
-        Kind::OddPath => extract_parity(alloc, instance, true, edges),
-        Kind::EvenPath => extract_parity(alloc, instance, false, edges),
-        Kind::Bottleneck => extract_plain(alloc, instance, edges),
-        Kind::Gallai => unreachable!(),
+    match kind.gadget() {
+        GadgetForm::Itself | GadgetForm::Unweighted => extract_plain(alloc, instance, edges),
+        GadgetForm::Doubled => extract_double(alloc, instance, edges),
+        GadgetForm::Copies => extract_copies(alloc, instance, edges),
+        GadgetForm::Capped(Capacities::Own) => extract(alloc, instance, false, edges),
+        GadgetForm::Capped(Capacities::Unit) => extract(alloc, instance, true, edges),
+        GadgetForm::Ports(_) => match kind.form() {
+            AnswerForm::Counts => extract_join(alloc, instance, edges),
+            AnswerForm::Walk => extract_tour(alloc, instance, edges),
+        },
+        GadgetForm::PathPorts => extract_path(alloc, instance, edges),
+        GadgetForm::Halves => extract_halves(alloc, instance, edges),
+        GadgetForm::Sides { odd } => extract_parity(alloc, instance, odd, edges),
     }
 }

@@ -91,7 +91,8 @@ pub use Rattle.mb_problem.proofs.EdgeLemmas.{edge-ends, edge-weight, edge_at-gra
 pub use Rattle.mb_problem.proofs.EndLemmas.{ends-high, ends-low}
 pub use Rattle.mb_problem.proofs.JoinLemmas.{listed-at, listed-length, odd_at-bit}
 pub use Rattle.mb_problem.proofs.KindLaws.{IsInForm, certified-no-larger, ends-needed, feasible-counts, feasible-form, feasible-most, feasible-places, kind-back, kind-field, number-back}
-pub use Rattle.mb_problem.proofs.KindLaws.{numbered-number, odd-excludes, only-bottleneck, only-gallai, split-excludes, value-order}
+pub use Rattle.mb_problem.proofs.KindLaws.{IsLike, IsLikeBy, IsReadLike, ReachesLike, first_with, like-with, numbered-number, odd-excludes, only-bottleneck, only-gallai, read-with}
+pub use Rattle.mb_problem.proofs.KindLaws.{split-excludes, value-order}
 pub use Rattle.mb_problem.proofs.PartTruths.{has_odd_value}
 pub use Rattle.mb_problem.proofs.WalkPlaces.{first_vertex}
 pub use Rattle.mb_problem.specs.Feasible.{AreEnds, AtMostOnce, DegreesMeet, HasCounts, IsAsGood, IsAsGoodBy, IsBMatching, IsBest, IsBetweenBounds, IsFeasible, IsJoin, IsMatching, IsPath}

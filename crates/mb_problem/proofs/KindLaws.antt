@@ -1,22 +1,24 @@
 -- What is shown kind by kind, each fact once: a row a kind.
-use Rattle.graph_theory.proofs.Common.{◌≡◌, ℕ, ◌≤◌, ◌<◌, ◌⊎◌, inl, inr, max, ◌∙◌, refl, sym, ap, arith, ℤ, ◌≤ℤ◌, Bool, true, false, cond, eqb, List}
+use Rattle.graph_theory.proofs.Common.{◌≡◌, ℕ, ◌≤◌, ◌<◌, ◌⊎◌, inl, inr, max, ◌∙◌, refl, sym, ap, subst, arith, ℤ, ◌≤ℤ◌, Bool, true, false, cond, eqb, List}
 use Rattle.graph_theory.proofs.Common.{length, slice_index, Option, Some, replicate, ⊤, eqb-true, ints, Size, IsWalk, IsOddPart, IsSplitPart, walk-numbers}
 use Rattle.mb_problem.specs.declared.kind.Kind.{Kind}
 use Rattle.mb_problem.specs.declared.kind.Kind.TheVariants.{Perfect, Match, BMatch, CapMatch, FFactor, TJoin, Postman, Path, Interval, OddPath, EvenPath, Bottleneck, Gallai}
 use Rattle.mb_problem.specs.declared.kind.AnswerForm.{AnswerForm}
 use Rattle.mb_problem.specs.declared.kind.Exclusion.TheVariants.{OddPart, SplitPart, Never}
-use Rattle.mb_problem.specs.declared.kind.BestProof.TheVariants.{LighterBarrier, OuterPaths}
+use Rattle.mb_problem.specs.declared.kind.BestProof.{BestProof}
+use Rattle.mb_problem.specs.declared.kind.BestProof.TheVariants.{Duals, LighterBarrier, OuterPaths}
 use Rattle.mb_problem.specs.declared.kind.VertexValue.TheVariants.{End}
 use Rattle.mb_problem.specs.declared.gadget.GadgetForm.{GadgetForm}
 use Rattle.mb_problem.specs.declared.gadget.GadgetForm.TheVariants.{Itself, Doubled, Copies, Capped, Ports, PathPorts, Halves, Sides, Unweighted}
+use Rattle.mb_problem.specs.declared.gadget.Capacities.TheVariants.{Own, Unit as Once}
 use Rattle.mb_problem.specs.declared.answer.Parity.TheVariants.{Empty, Values, OddDegrees}
 use Rattle.mb_problem.specs.declared.answer.Answer.{Answer}
 use Rattle.mb_problem.specs.declared.answer.Answer.TheVariants.{Counts, Walk, Nothing}
 use Rattle.mb_problem.specs.Kinds.{kind_text, kind_named, kind_number, kind_numbered, form_of, exclusion_of, vertex_value_of, edge_use_of, asks_conservative, searches_of, gadget_of}
-use Rattle.mb_problem.specs.Kinds.{proof_of}
+use Rattle.mb_problem.specs.Kinds.{proof_of, are_duals, need_of, start_of}
 use Rattle.mb_problem.specs.Words.{IsField}
 use Rattle.mb_problem.specs.Network.{Network, IsNetwork, graph_of, instance_edge_at, high_of}
-use Rattle.mb_problem.specs.Feasible.{IsFeasible, IsAsGood}
+use Rattle.mb_problem.specs.Feasible.{IsFeasible, IsAsGood, weight_of}
 use Rattle.mb_problem.specs.Ready.{HasEnds, HasNeededEnds}
 use Rattle.mb_problem.specs.Measured.{HasPlaces}
 use Rattle.mb_problem.specs.Size.{most_by, size_by, size_of, certified_by, certified_size, ports_size, odd_at}
@@ -449,3 +451,86 @@ two-searches EvenPath asks = absurd (cc)
 two-searches Bottleneck asks = absurd (cc)
 two-searches Gallai asks = absurd (cc)
 two-searches Path asks = omega arith
+
+-- ---- certificate graphs
+
+-- the first kind whose certificate graph is built so; no kind has the ports that are odd nowhere
+abbrev pub first_with : GadgetForm → Kind
+first_with Itself = Perfect
+first_with Doubled = Match
+first_with Copies = BMatch
+first_with (Capped Own) = CapMatch
+first_with (Capped Once) = FFactor
+first_with (Ports Empty) = TJoin
+first_with (Ports Values) = TJoin
+first_with (Ports OddDegrees) = Postman
+first_with PathPorts = Path
+first_with Halves = Interval
+first_with (Sides true) = OddPath
+first_with (Sides false) = EvenPath
+first_with Unweighted = Gallai
+
+-- each feasible answer of the one kind is one of the other, whose answers duals prove best
+pub record ReachesLike (kind first : Kind) : Type 0 where
+  pub duals : are_duals (proof_of first) ≡ true
+  pub need : need_of first ≡ need_of kind
+  pub feasible : (i : Network) (answer : Answer) → IsFeasible kind i answer → IsFeasible first i answer
+
+-- and the other way round, at the same value, if the same is asked of the instance and the answer
+pub record IsReadLike (kind first : Kind) : Type 0 where
+  pub reaches : ReachesLike kind first
+  pub feasible : (i : Network) (answer : Answer) → IsFeasible first i answer → IsFeasible kind i answer
+  pub value : (i : Network) (answer : Answer) → value_for first i (weight_of first i answer) ≡ value_for kind i (weight_of kind i answer)
+  pub form : form_of first ≡ form_of kind
+  pub exclusion : exclusion_of first ≡ exclusion_of kind
+  pub conservative : asks_conservative first ≡ asks_conservative kind
+  pub start : start_of first ≡ start_of kind
+
+-- what a perfect matching says of the answers of either kind, by what proves an answer of the one best
+abbrev pub IsLikeBy : BestProof → Kind → Kind → Type 0
+IsLikeBy (Duals value) kind first = IsReadLike kind first
+IsLikeBy LighterBarrier kind first = ReachesLike kind first
+IsLikeBy OuterPaths kind first = ⊤
+
+-- two kinds with one certificate graph
+pub record IsLike (kind first : Kind) : Type 0 where
+  pub gadget : gadget_of first ≡ gadget_of kind
+  pub answers : IsLikeBy (proof_of kind) kind first
+
+read_as_itself : (kind : Kind) → are_duals (proof_of kind) ≡ true → IsReadLike kind kind
+read_as_itself kind duals = record {
+  reaches = record { duals = duals; need = refl; feasible = λ i answer f. f };
+  feasible = λ i answer f. f;
+  value = λ i answer. refl;
+  form = refl;
+  exclusion = refl;
+  conservative = refl;
+  start = refl;
+}
+
+-- each kind beside the first one with its certificate graph
+like_first : (kind : Kind) → IsLike kind (first_with (gadget_of kind))
+like_first Perfect = record { gadget = refl; answers = read_as_itself Perfect refl }
+like_first Match = record { gadget = refl; answers = read_as_itself Match refl }
+like_first BMatch = record { gadget = refl; answers = read_as_itself BMatch refl }
+like_first CapMatch = record { gadget = refl; answers = read_as_itself CapMatch refl }
+like_first FFactor = record { gadget = refl; answers = read_as_itself FFactor refl }
+like_first TJoin = record { gadget = refl; answers = read_as_itself TJoin refl }
+like_first Postman = record { gadget = refl; answers = read_as_itself Postman refl }
+like_first Path = record { gadget = refl; answers = read_as_itself Path refl }
+like_first Interval = record { gadget = refl; answers = read_as_itself Interval refl }
+like_first OddPath = record { gadget = refl; answers = read_as_itself OddPath refl }
+like_first EvenPath = record { gadget = refl; answers = read_as_itself EvenPath refl }
+like_first Bottleneck = record { gadget = refl; answers = record { duals = refl; need = refl; feasible = λ i answer f. f } }
+like_first Gallai = record { gadget = refl; answers = tt }
+
+pub like-with : (kind : Kind) (gadget : GadgetForm) → gadget_of kind ≡ gadget → IsLike kind (first_with gadget)
+like-with kind gadget is = subst (λ (g : GadgetForm). IsLike kind (first_with g)) is (like_first kind)
+
+read_by : (proof : BestProof) (kind first : Kind) → are_duals proof ≡ true → IsLikeBy proof kind first → IsReadLike kind first
+read_by (Duals value) kind first duals like = like
+read_by LighterBarrier kind first duals like = absurd (cc)
+read_by OuterPaths kind first duals like = absurd (cc)
+
+pub read-with : (kind : Kind) (gadget : GadgetForm) → gadget_of kind ≡ gadget → are_duals (proof_of kind) ≡ true → IsReadLike kind (first_with gadget)
+read-with kind gadget is duals = read_by (proof_of kind) kind (first_with gadget) duals (like-with kind gadget is).answers

@@ -7,7 +7,7 @@ ghost use Rattle.mb_problem.specs.Feasible.{IsFeasible, HasCounts, AtMostOnce, W
 use crate::answer::Answer;
 use crate::degrees::degrees_of;
 use crate::instance::Instance;
-use crate::kind::Kind;
+use crate::kind::{AnswerForm, Kind};
 use crate::walks::{is_path, is_path_of, is_tour};
 use mb_base::{EdgeId, OutOfMemory, VertexId};
 use std::alloc::Global;
@@ -131,7 +131,7 @@ fn are_fit(instance: &Instance, kind: Kind, counts: &[u32], degrees: &[u64]) -> 
             are_between(degrees, instance.low_list(), instance.high_list())
                 && is_within_capacities(instance, counts)
         }
-        Kind::Postman | Kind::Path | Kind::OddPath | Kind::EvenPath => false,
+        _ => false,
     }
 }
 
@@ -168,15 +168,7 @@ fn is_feasible_walk(
         Kind::Path => is_path(alloc, instance, start, edges),
         Kind::OddPath => is_path_of(alloc, instance, true, start, edges),
         Kind::EvenPath => is_path_of(alloc, instance, false, start, edges),
-        Kind::Perfect
-        | Kind::Match
-        | Kind::BMatch
-        | Kind::CapMatch
-        | Kind::FFactor
-        | Kind::TJoin
-        | Kind::Interval
-        | Kind::Bottleneck
-        | Kind::Gallai => Ok(false),
+        _ => Ok(false),
     }
 }
 
@@ -184,20 +176,9 @@ fn is_feasible_walk(
 fn is_nothing_feasible(instance: &Instance, kind: Kind) -> bool
     ensures { IsTrue result ↔ IsFeasible kind instance.now Answer.Nothing }
 {
-    match kind {
-        Kind::Postman => instance.edges() == 0,
-        Kind::Perfect
-        | Kind::Match
-        | Kind::BMatch
-        | Kind::CapMatch
-        | Kind::FFactor
-        | Kind::TJoin
-        | Kind::Path
-        | Kind::Interval
-        | Kind::OddPath
-        | Kind::EvenPath
-        | Kind::Bottleneck
-        | Kind::Gallai => false,
+    match kind.form() {
+        AnswerForm::Counts => false,
+        AnswerForm::Walk => kind == Kind::Postman && instance.edges() == 0,
     }
 }
 

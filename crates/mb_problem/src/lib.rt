@@ -33,6 +33,6 @@ pub use limits::{EDGE_LIMIT, VALUE_LIMIT, VERTEX_LIMIT};
 pub use marks::{mark, marks_of};
 pub use measure::{degree, weight};
 pub use sides::mark_sides;
-pub use size::{copy_pairs, gadget_size, link_count, odd_by, ports_by, size_by};
+pub use size::{certified_size, copy_pairs, gadget_size, link_count, odd_by, ports_by};
 pub use two_ends::ends;
 pub use walks::{is_circuit, vertices_differ, walk_end};

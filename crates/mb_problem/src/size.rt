@@ -4,6 +4,7 @@ ghost use Rattle.graph_theory.specs.Graph.{IsEdgeWithin, is_loop};
 ghost use Rattle.graph_theory.specs.Sums.{sum_to};
 ghost use Rattle.mb_problem.specs.Network.{Network, IsNetwork, vertices, plain, value_of};
 ghost use Rattle.mb_problem.specs.Size.{size_by, size_of, ports_size, odd_by, odd_at};
+ghost use Rattle.mb_problem.specs.Size.{certified_by, certified_size};
 ghost use Rattle.mb_problem.specs.Size.{edge_count_at, port_count, link_count, copy_pairs};
 
 use crate::answer::Parity;
@@ -135,7 +136,7 @@ fn greater(one: (u64, u64), other: (u64, u64)) -> (u64, u64)
 /// How many vertices and edges the graph has that is built so from an instance; for the ports of a
 /// path the greater numbers of two graphs. It takes no memory, and time linear in vertices and
 /// edges.
-pub fn size_by(instance: &Instance, gadget: GadgetForm) -> (u64, u64)
+fn size_by(instance: &Instance, gadget: GadgetForm) -> (u64, u64)
     ensures vertices { result.0 ≡ (size_by gadget instance.now).vertices }
     ensures edges { result.1 ≡ (size_by gadget instance.now).edges }
 {
@@ -168,4 +169,25 @@ pub fn gadget_size(instance: &Instance, kind: Kind) -> (u64, u64)
     ensures edges { result.1 ≡ (size_of kind instance.now).edges }
 {
     size_by(instance, kind.gadget())
+}
+
+/// The vertices and edges of the certificate graph that is built so, also for the ports of a path.
+fn certified_by(instance: &Instance, gadget: GadgetForm) -> (u64, u64)
+    ensures vertices { result.0 ≡ (certified_by gadget instance.now).vertices }
+    ensures edges { result.1 ≡ (certified_by gadget instance.now).edges }
+{
+    match gadget {
+        GadgetForm::PathPorts => ports_size(instance, Parity::Values),
+        _ => size_by(instance, gadget),
+    }
+}
+
+/// The vertices and edges of the certificate graph of an instance of this kind: `gadget_size`, but
+/// for a path, which has a greater graph searched besides. It takes no memory, and time linear in
+/// vertices and edges.
+pub fn certified_size(instance: &Instance, kind: Kind) -> (u64, u64)
+    ensures vertices { result.0 ≡ (certified_size kind instance.now).vertices }
+    ensures edges { result.1 ≡ (certified_size kind instance.now).edges }
+{
+    certified_by(instance, kind.gadget())
 }
