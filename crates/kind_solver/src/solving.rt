@@ -11,8 +11,9 @@ ghost use Rattle.kind_answers.specs.Chosen.{IsChosen};
 ghost use Rattle.kind_answers.specs.Settled.{IsWrittenFor, SettlesFor, byte_limit_of};
 ghost use Rattle.kind_answers.specs.Solved.{HasTrueStatus, is_tested_first};
 
+use crate::barriers::lightest;
+use crate::even_paths::greatest;
 use doc_format::Document;
-use dual_free_kinds::{greatest, lightest};
 use mb_base::{OutOfMemory, Steps};
 use mb_problem::{BestProof, Instance, Kind};
 use std::alloc::Global;

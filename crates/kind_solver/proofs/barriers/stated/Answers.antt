@@ -3,9 +3,9 @@ use Rattle.bottleneck.specs.declared.found.Bottleneck.TheVariants.{Best, Unmatch
 use Rattle.bottleneck.specs.Thresholds.{IsThreshold}
 use Rattle.kind_answers.specs.Excluding.{StatesSet}
 use Rattle.kind_answers.specs.Settled.{SettlesBare}
-use Rattle.dual_free_kinds.specs.Lightest.{StatesLightest}
-use Rattle.dual_free_kinds.proofs.Settling.{settles-lightest, settles-unmatched}
-use Rattle.dual_free_kinds.proofs.barriers.stated.Goals as goal
+use Rattle.kind_solver.specs.Lightest.{StatesLightest}
+use Rattle.kind_solver.proofs.Settling.{settles-lightest, settles-unmatched}
+use Rattle.kind_solver.proofs.barriers.stated.Goals as goal
 
 pub returns-in-Best : goal.returns-in-Best
 returns-in-Best c =

@@ -22,7 +22,7 @@ use Rattle.kind_answers.proofs.SettlingSets.{no-weights}
 use Rattle.kind_answers.proofs.SettlingSets.{bare-set}
 use Rattle.kind_answers.proofs.Short.{lines-size, line-size, short-document}
 use Rattle.kind_answers.proofs.Texts.{size-append}
-use Rattle.dual_free_kinds.specs.Lightest.{line_beside, StatesLightest}
+use Rattle.kind_solver.specs.Lightest.{line_beside, StatesLightest}
 use Rattle.doc_format.specs.declared.part.Part.TheVariants as part
 
 -- what holds of the line of a set holds of the one beside an answer, where there is a vertex

@@ -27,7 +27,7 @@ use Rattle.gallai.specs.Decompositions.{IsDecomposition}
 use Rattle.gallai.proofs.Greatest.{listed-each, listed-used}
 use Rattle.gallai.proofs.Moved.{searched_graph, searched-graph}
 use Rattle.graph_parts.proofs.Once.{once-short as few_differ}
-use Rattle.dual_free_kinds.specs.Greatest.{path_line, StatesGreatest}
+use Rattle.kind_solver.specs.Greatest.{path_line, StatesGreatest}
 use Rattle.doc_format.specs.declared.part.Part.TheVariants as part
 
 -- a path has fewer edges than there are vertices

@@ -3,8 +3,8 @@ use Rattle.std.proofs.Common.{take_all}
 use Rattle.certificates.proofs.Common.{rules, to_z, of_z, w64, PathLine}
 use Rattle.std.specs.Prelude.{OnOk}
 use Rattle.graph_theory.proofs.MappedLists.{mapped-more}
-use Rattle.dual_free_kinds.specs.Greatest.{path_line}
-use Rattle.dual_free_kinds.proofs.even_paths.push_path.Goals as goal
+use Rattle.kind_solver.specs.Greatest.{path_line}
+use Rattle.kind_solver.proofs.even_paths.push_path.Goals as goal
 
 pub loop-edge-preserved : goal.loop-edge-preserved
 loop-edge-preserved c =

@@ -2,9 +2,9 @@ use Rattle.certificates.proofs.Common.{◌≡◌, ℕ, ◌+◌, ◌*◌, ◌≤�
 use Rattle.mb_problem.specs.Size.{size_of}
 use Rattle.mwpm_engine.specs.Solutions.{most_steps}
 use Rattle.kind_answers.specs.Settled.{SettlesBare}
-use Rattle.dual_free_kinds.specs.Greatest.{StatesGreatest}
-use Rattle.dual_free_kinds.proofs.Outer.{settles-greatest}
-use Rattle.dual_free_kinds.proofs.even_paths.greatest.Goals as goal
+use Rattle.kind_solver.specs.Greatest.{StatesGreatest}
+use Rattle.kind_solver.proofs.Outer.{settles-greatest}
+use Rattle.kind_solver.proofs.even_paths.greatest.Goals as goal
 
 paid : (kind : Kind) (i : Network) (old new : ℕ) → proof_of kind ≡ OuterPaths → new ≤ old + most_steps (size_of Gallai i) →
     new ≤ old + searches_of kind * most_steps (size_of kind i)

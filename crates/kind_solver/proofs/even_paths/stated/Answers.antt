@@ -1,8 +1,8 @@
 use Rattle.certificates.proofs.Common.{ℕ, ◌≤◌, pos, List, length, All, refl, sym, ap, ◌∙◌, subst, w64, arith, to_z_pos, IsNumber, IsEdgeNumber, graph_of}
 use Rattle.certificates.proofs.Common.{only-gallai, times_each, PathLine, AscendsBy}
-use Rattle.dual_free_kinds.proofs.Forms.{form-greatest}
-use Rattle.dual_free_kinds.proofs.Outer.{few-matching, small-number, starts-ascend}
-use Rattle.dual_free_kinds.proofs.even_paths.stated.Goals as goal
+use Rattle.kind_solver.proofs.Forms.{form-greatest}
+use Rattle.kind_solver.proofs.Outer.{few-matching, small-number, starts-ascend}
+use Rattle.kind_solver.proofs.even_paths.stated.Goals as goal
 
 pub matching_lines-requires : goal.matching_lines-requires
 matching_lines-requires c =

@@ -12,7 +12,7 @@ ghost use Rattle.bottleneck.specs.Thresholds.{IsThreshold};
 ghost use Rattle.mwpm_engine.specs.Solutions.{most_steps};
 ghost use Rattle.kind_answers.specs.Excluding.{StatesSet};
 ghost use Rattle.kind_answers.specs.Settled.{SettlesBare};
-ghost use Rattle.dual_free_kinds.specs.Lightest.{line_beside, StatesLightest};
+ghost use Rattle.kind_solver.specs.Lightest.{line_beside, StatesLightest};
 
 use bottleneck::{Bottleneck, threshold};
 use doc_format::{DocStatus, Document, MemberLine};

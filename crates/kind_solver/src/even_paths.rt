@@ -14,7 +14,7 @@ ghost use Rattle.certificates.specs.Within.{IsCountWithin};
 ghost use Rattle.mwpm_engine.specs.Solutions.{most_steps};
 ghost use Rattle.gallai.specs.Decompositions.{IsDecomposition};
 ghost use Rattle.kind_answers.specs.Settled.{SettlesBare};
-ghost use Rattle.dual_free_kinds.specs.Greatest.{path_line, StatesGreatest};
+ghost use Rattle.kind_solver.specs.Greatest.{path_line, StatesGreatest};
 
 use doc_format::{CountLine, DocStatus, Document, PathLine};
 use document_lines::{count_lines, member_line};

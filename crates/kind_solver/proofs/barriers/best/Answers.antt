@@ -4,10 +4,10 @@ use Rattle.certificates.proofs.Common.{AscendsBy, IsCountWithin, only-bottleneck
 use Rattle.document_lines.specs.Lines.{ListsAnswer}
 use Rattle.document_lines.proofs.Ascents.{ascends-pos}
 use Rattle.kind_answers.proofs.EachKind.{small}
-use Rattle.dual_free_kinds.proofs.Forms.{form-lightest}
-use Rattle.dual_free_kinds.proofs.Heaviest.{heaviest-number, weighs-found}
-use Rattle.dual_free_kinds.proofs.Settling.{beside}
-use Rattle.dual_free_kinds.proofs.barriers.best.Goals as goal
+use Rattle.kind_solver.proofs.Forms.{form-lightest}
+use Rattle.kind_solver.proofs.Heaviest.{heaviest-number, weighs-found}
+use Rattle.kind_solver.proofs.Settling.{beside}
+use Rattle.kind_solver.proofs.barriers.best.Goals as goal
 
 pub count_lines-lines-requires-clause-places : goal.count_lines-lines-requires-clause-places
 count_lines-lines-requires-clause-places c = feasible-places Perfect c.args.instance.now c.in_ok-answer.answer c.in_ok-answer.ensures.feasible

@@ -1,7 +1,7 @@
 use Rattle.certificates.proofs.Common.{◌≡◌, ◌<◌, ℕ, List, length, get_or, ap, ◌∙◌, arith}
 use Rattle.graph_theory.proofs.MappedLists.{mapped-more}
-use Rattle.dual_free_kinds.specs.Greatest.{path_line}
-use Rattle.dual_free_kinds.proofs.even_paths.path_lines.Goals as goal
+use Rattle.kind_solver.specs.Greatest.{path_line}
+use Rattle.kind_solver.proofs.even_paths.path_lines.Goals as goal
 
 pub loop-vertex-preserved : goal.loop-vertex-preserved
 loop-vertex-preserved c =

@@ -1,8 +1,8 @@
 use Rattle.certificates.proofs.Common.{◌≡◌, ℕ, ◌≤◌, List, length, All, sym, ◌∙◌, subst, arith, All-weaker, VALUE_LIMIT, Counts, graph_of, edges-count, times_each}
 use Rattle.certificates.proofs.Common.{times_each-length, CountLine, AscendsBy, IsCountWithin}
 use Rattle.document_lines.specs.Lines.{ListsAnswer}
-use Rattle.dual_free_kinds.proofs.Outer.{listed-as}
-use Rattle.dual_free_kinds.proofs.even_paths.matching_lines.Goals as goal
+use Rattle.kind_solver.proofs.Outer.{listed-as}
+use Rattle.kind_solver.proofs.even_paths.matching_lines.Goals as goal
 
 pub count_lines-lines-requires : goal.count_lines-lines-requires
 count_lines-lines-requires c =
