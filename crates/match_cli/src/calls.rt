@@ -1,14 +1,15 @@
 ghost use Rattle.std.specs.Prelude.{◌≡◌, Some};
 ghost use Rattle.match_cli.specs.Counts.{CountsCall, CountsInstance};
 ghost use Rattle.match_cli.specs.Runs.{TellsTrue, IsAcceptedBehind, IsComplete};
-ghost use Rattle.match_call.specs.Calls.{command_for, Calls};
+ghost use Rattle.match_cli.specs.Calls.{command_for, Calls};
 
+use crate::commands::answer_to;
 use crate::task::{Task, command_for};
-use match_cli::{Reply, Status, answer_to};
 use mb_base::Steps;
 use mb_problem::Kind;
 use std::alloc::Global;
 use std::sync::ledger::Ledger;
+use text_check::{Reply, Status};
 
 /// Does the task for the kind on the bytes of an input, as `run` does for words that ask for the
 /// same. If there isn't enough memory the status is that, and the text is empty.

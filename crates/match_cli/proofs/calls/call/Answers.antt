@@ -5,9 +5,9 @@ use Rattle.match_cli.specs.Answers.{Gives}
 use Rattle.match_cli.proofs.Decided.{tells_true}
 use Rattle.match_cli.proofs.AcceptedAgain.{accepted_behind}
 use Rattle.match_cli.proofs.Completeness.{is_complete}
-use Rattle.match_call.specs.Calls.{command_for}
-use Rattle.match_call.proofs.TaskAnswers.{ranges_for, calls}
-use Rattle.match_call.proofs.calls.call.Goals as goal
+use Rattle.match_cli.specs.Calls.{command_for}
+use Rattle.match_cli.proofs.TaskAnswers.{ranges_for, calls}
+use Rattle.match_cli.proofs.calls.call.Goals as goal
 
 pub answer_to-requires : goal.answer_to-requires
 answer_to-requires g c = record { ranges = subst HasRanges (sym c.command_for.ensures) (ranges_for c.args.task c.args.kind) }

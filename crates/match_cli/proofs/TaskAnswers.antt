@@ -7,9 +7,9 @@ use Rattle.text_check.specs.declared.status.Status.{Status}
 use Rattle.text_check.specs.declared.status.Status.TheVariants.{Done, Rejected, Usage, Malformed, TooLarge, TooLong, ReadFault, WriteFault, OutOfMemory}
 use Rattle.match_cli.specs.Answers.{Gives}
 use Rattle.match_cli.proofs.Decided.{decided}
-use Rattle.match_call.specs.declared.task.Task.{Task}
-use Rattle.match_call.specs.declared.task.Task.TheVariants.{Solve, SolveBriefly, Check}
-use Rattle.match_call.specs.Calls.{command_for, Calls}
+use Rattle.match_cli.specs.declared.task.Task.{Task}
+use Rattle.match_cli.specs.declared.task.Task.TheVariants.{Solve, SolveBriefly, Check}
+use Rattle.match_cli.specs.Calls.{command_for, Calls}
 
 -- a task makes no instance
 pub ranges_for : (task : Task) (kind : Kind) → HasRanges (command_for task kind)

@@ -1,5 +1,5 @@
 ghost use Rattle.std.specs.Prelude.{◌≡◌};
-ghost use Rattle.match_call.specs.Calls.{command_for};
+ghost use Rattle.match_cli.specs.Calls.{command_for};
 
 use command_words::Command;
 use mb_problem::Kind;

@@ -7,8 +7,8 @@ use Rattle.text_check.specs.declared.status.Status.{Status}
 use Rattle.text_check.specs.declared.status.Status.TheVariants.{Usage, ReadFault, WriteFault}
 use Rattle.text_check.specs.declared.status.Status.TheVariants.{OutOfMemory}
 use Rattle.match_cli.specs.Answers.{Gives}
-use Rattle.match_call.specs.declared.task.Task.{Task}
-use Rattle.match_call.specs.declared.task.Task.TheVariants.{Solve, SolveBriefly, Check}
+use Rattle.match_cli.specs.declared.task.Task.{Task}
+use Rattle.match_cli.specs.declared.task.Task.TheVariants.{Solve, SolveBriefly, Check}
 
 -- the command that is the task for the kind
 abbrev pub command_for : Task → Kind → Command
