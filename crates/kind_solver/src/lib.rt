@@ -7,6 +7,8 @@
 
 mod barriers;
 mod even_paths;
+mod sized;
 mod solving;
 
-pub use solving::{solve, solve_written};
+pub use sized::{SolveError, solve_sized};
+pub use solving::solve;
