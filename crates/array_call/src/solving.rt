@@ -1,6 +1,4 @@
-ghost use Rattle.std.specs.Prelude.{◌≡◌, ◌≤◌, ◌↔◌, IsTrue, IfOk};
-ghost use Rattle.graph_theory.specs.Limits.{IsWithinLimits};
-ghost use Rattle.mb_problem.specs.Network.{IsNetwork};
+ghost use Rattle.std.specs.Prelude.{◌≡◌, IfOk};
 ghost use Rattle.mb_problem.specs.Ready.{IsReady};
 ghost use Rattle.certificates.specs.Proved.{StatesTruth};
 ghost use Rattle.kind_answers.specs.Solved.{HasTrueStatus};
@@ -12,23 +10,13 @@ use crate::arrays::InstanceArrays;
 use crate::error::ArrayError;
 use crate::making::instance_of;
 use doc_format::Document;
-use graph_theory::{GRAPH_EDGE_LIMIT, GRAPH_VERTEX_LIMIT};
+use kind_solver::{SolveError, solve_sized};
 use mb_base::Steps;
-use mb_problem::{Instance, Kind, gadget_size};
+use mb_problem::{Instance, Kind};
 use std::alloc::Global;
 use std::sync::ledger::Ledger;
 
-/// Whether a graph of this size may be searched and certified.
-pub fn is_within_limits(vertices: u64, edges: u64) -> bool
-    ensures { IsTrue result ↔ IsWithinLimits (record { vertices = vertices; edges = edges }) }
-{
-    if vertices > u64::from(GRAPH_VERTEX_LIMIT) {
-        return false;
-    }
-    edges <= u64::from(GRAPH_EDGE_LIMIT)
-}
-
-/// Solves the instance that arrays are, in full or in brief: its size is tested first.
+/// Solves the instance that arrays are, in full or in brief.
 fn solve_instance<L: Ledger>(
     alloc: Global,
     kind: Kind,
@@ -43,13 +31,12 @@ fn solve_instance<L: Ledger>(
     ensures answer { SolvesFor brief kind (arrays_of arrays.now) result }
     ensures steps { Counts kind (arrays_of arrays.now) steps.old steps.new result }
 {
-    let (vertices, edges) = gadget_size(instance, kind);
-    if !is_within_limits(vertices, edges) {
-        return Err(ArrayError::TooLarge { vertices, edges });
-    }
-    match kind_solver::solve_written(alloc, instance, kind, brief, steps) {
+    match solve_sized(alloc, instance, kind, brief, steps) {
         Ok(document) => Ok(document),
-        Err(_) => Err(ArrayError::OutOfMemory),
+        Err(SolveError::TooLarge { vertices, edges }) => {
+            Err(ArrayError::TooLarge { vertices, edges })
+        }
+        Err(SolveError::OutOfMemory) => Err(ArrayError::OutOfMemory),
     }
 }
 
@@ -71,10 +58,9 @@ pub(crate) fn solve_for<L: Ledger>(
     answer
 }
 
-/// Solves the instance that arrays are for a kind (Schrijver, Combinatorial Optimization, volume A,
-/// chapters 24 to 33), as `kind_solver::solve` does: the document of a best answer, or of what
-/// excludes all answers. Edges and vertices count from 1. The steps of the searches are counted on
-/// `steps`.
+/// Solves the instance that arrays are for a kind, as `kind_solver::solve` does: the document of a
+/// best answer, or of what excludes all answers. Edges and vertices count from 1. The steps of the
+/// searches are counted on `steps`.
 pub fn solve_arrays<L: Ledger>(
     alloc: Global,
     kind: Kind,

@@ -4,8 +4,8 @@ use Rattle.mb_problem.specs.declared.kind.Kind.{Kind}
 use Rattle.mb_problem.specs.Kinds.{kind_number}
 use Rattle.text_check.specs.declared.status.Status.{Status}
 use Rattle.match_cli.specs.Runs.{TellsTrue, IsAcceptedBehind, IsComplete}
-use Rattle.match_call.specs.declared.task.Task.{Task}
-use Rattle.match_call.specs.Calls.{command_for, Calls}
+use Rattle.match_cli.specs.declared.task.Task.{Task}
+use Rattle.match_cli.specs.Calls.{command_for, Calls}
 use Rattle.blossom_c.specs.declared.ending.Ending.{Ending}
 use Rattle.blossom_c.specs.declared.ending.Ending.TheVariants.{Answered, ShortBuffer, NoSuchCall}
 use Rattle.blossom_c.specs.Numbers.{number_of_task, number_of_ending, IsUnnumbered}

@@ -1,8 +1,8 @@
 -- The numbers of tasks and endings, by which C names them beside kinds.
 use Rattle.std.specs.Prelude.{◌≡◌, ℕ, Option, None, Some}
 use Rattle.text_check.specs.Codes.{code_of}
-use Rattle.match_call.specs.declared.task.Task.{Task}
-use Rattle.match_call.specs.declared.task.Task.TheVariants.{Solve, SolveBriefly, Check}
+use Rattle.match_cli.specs.declared.task.Task.{Task}
+use Rattle.match_cli.specs.declared.task.Task.TheVariants.{Solve, SolveBriefly, Check}
 use Rattle.blossom_c.specs.declared.ending.Ending.{Ending}
 use Rattle.blossom_c.specs.declared.ending.Ending.TheVariants.{Answered, ShortBuffer, NoSuchCall}
 

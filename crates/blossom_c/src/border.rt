@@ -4,7 +4,7 @@ ghost use Rattle.blossom_c.specs.Endings.{Ends, EndsNumbered, Tells};
 use crate::buffer::put;
 use crate::ending::Ending;
 use crate::numbers::{kind_numbered, task_numbered};
-use match_call::{Task, call};
+use match_cli::{Task, call};
 use mb_base::Steps;
 use mb_problem::Kind;
 use std::alloc::Global;

@@ -1,4 +1,4 @@
-//! The calls for C and for languages that call C, over the caller's buffers: `match_call::call`
+//! The calls for C and for languages that call C, over the caller's buffers: `match_cli::call`
 //! over texts, and `array_call::answer_to` over arrays. It depends on these two. It promises of
 //! what it leaves in a buffer what they promise of their answers, for every input and every buffer.
 #![tactic(auto)]

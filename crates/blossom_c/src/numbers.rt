@@ -2,7 +2,7 @@ ghost use Rattle.mb_problem.specs.Kinds.{kind_number};
 ghost use Rattle.blossom_c.specs.ArrayEndings.{number_of_solving};
 ghost use Rattle.blossom_c.specs.Numbers.{number_of_task, IsNumbered};
 
-use match_call::Task;
+use match_cli::Task;
 use mb_problem::Kind;
 
 /// The task of this number, where one has it.

@@ -6,8 +6,10 @@
 
 mod gadgets;
 mod law;
+mod limits;
 mod value;
 
 pub use gadgets::{certified, certified_vertices};
 pub use law::laws;
+pub use limits::is_within_limits;
 pub use value::{total_weight, value_for};

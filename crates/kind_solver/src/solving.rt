@@ -1,5 +1,5 @@
 ghost use Rattle.std.specs.Prelude.{◌≡◌, ◌≤◌, ◌+◌, ◌*◌, length, true, false, IfOk};
-ghost use Rattle.mb_problem.specs.Kinds.{searches_of};
+ghost use Rattle.mb_problem.specs.Kinds.{searches_of, proof_of, are_duals};
 ghost use Rattle.mb_problem.specs.Ready.{IsReady};
 ghost use Rattle.mb_problem.specs.Size.{size_of};
 ghost use Rattle.graph_theory.specs.Limits.{IsWithinLimits};
@@ -11,24 +11,45 @@ ghost use Rattle.kind_answers.specs.Chosen.{IsChosen};
 ghost use Rattle.kind_answers.specs.Settled.{HasShortWalk, IsWrittenFor, SettlesFor, byte_limit_of};
 ghost use Rattle.kind_answers.specs.Solved.{HasTrueStatus, is_tested_first};
 
+use crate::barriers::lightest;
+use crate::even_paths::greatest;
 use doc_format::Document;
-use dual_free_kinds::{greatest, lightest};
 use mb_base::{OutOfMemory, Steps};
 use mb_problem::{BestProof, Instance, Kind};
 use std::alloc::Global;
 use std::sync::ledger::Ledger;
 
+/// The document of a kind whose best answers duals prove, to be written in full or in brief.
+fn by_duals<L: Ledger>(
+    alloc: Global,
+    instance: &Instance,
+    kind: Kind,
+    brief: bool,
+    steps: &mut Steps<L>,
+) -> Result<Document, OutOfMemory>
+    requires limits { IsWithinLimits (size_of kind instance.now) }
+    requires duals { are_duals (proof_of kind) ≡ true }
+    requires ready { IsReady kind instance.now }
+    ensures settled { IfOk result (SettlesFor brief kind instance.now) }
+    ensures steps { steps.new ≤ steps.old
+        + searches_of kind * most_steps (size_of kind instance.now) }
+    ensures unsearched { IfOk result
+        (λ d. is_tested_first kind ≡ true → d.status ≡ Infeasible → steps.new ≡ steps.old) }
+{
+    if brief {
+        return solve_kinds::solve_brief(alloc, instance, kind, steps);
+    }
+    solve_kinds::solve(alloc, instance, kind, steps)
+}
+
 /// Solves an instance: the document of a best answer, or of what excludes all answers. It proves
-/// what it states, whole: an accepting judge is sure. A perfect matching of least weight is sought
-/// in the certificate graph of the kind (Schrijver, Combinatorial Optimization, volume A, chapter
-/// 26 for matchings, 29 for joins, tours and paths, 31 to 33 for b-matchings, capacities and
-/// factors). If the kind asks for conservative weights an even set of edges of least weight is
-/// sought first, to tell whether they are. The instance has what the kind needs: for a tour no edge
-/// weighs less than 0, and for a path two vertices have odd values, its ends.
+/// what it states, whole: an accepting judge is sure. If duals prove a best answer it is the one of
+/// `solve_kinds::solve`, whose comment says how it is sought and what an instance needs. Else
+/// halving over the weights minimises the largest edge weight of a perfect matching, or one search
+/// for a maximum matching may end stuck (Schrijver, Combinatorial Optimization, volume A, chapter
+/// 24).
 ///
-/// The steps of the searches are counted on `steps`: looks at edges and events. What it takes
-/// besides them is linear in that graph and the members of the sets, but for sets of less than a
-/// sixteenth of the vertices, which are sorted.
+/// The steps of the searches are counted on `steps`, as there.
 ///
 /// # Errors
 ///
@@ -71,6 +92,10 @@ pub fn solve<L: Ledger>(
 /// The same for a document that is to be written, in full or in brief: it has the text of a
 /// document that `solve` could answer. In brief it has no duals and no sets, which are not written
 /// then; the sets and paths beside a greatest matching it has.
+///
+/// # Errors
+///
+/// `OutOfMemory` if an allocation fails.
 pub fn solve_written<L: Ledger>(
     alloc: Global,
     instance: &Instance,
@@ -92,7 +117,7 @@ pub fn solve_written<L: Ledger>(
         (λ d. is_tested_first kind ≡ true → d.status ≡ Infeasible → steps.new ≡ steps.old) }
 {
     match kind.proof() {
-        BestProof::Duals(_) => solve_kinds::solve_written(alloc, instance, kind, brief, steps),
+        BestProof::Duals(_) => by_duals(alloc, instance, kind, brief, steps),
         BestProof::LighterBarrier => lightest(alloc, instance, kind, steps),
         BestProof::OuterPaths => greatest(alloc, instance, kind, steps),
     }

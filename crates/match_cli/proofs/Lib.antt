@@ -9,3 +9,4 @@ pub mod SolveAnswers
 pub mod TrialAnswers
 pub mod Completeness
 pub mod RunEnds
+pub mod TaskAnswers

@@ -1,21 +1,22 @@
 -- From the answer of a part of `solve` to the answer of the whole.
-use Rattle.certificates.proofs.Common.{◌≡◌, ℕ, Bool, List, Result, Ok, Err, inr, refl, sym, subst, IfOk, Kind, Network, Document, document_text}
+use Rattle.certificates.proofs.Common.{◌≡◌, ℕ, Bool, List, Result, Ok, Err, inr, refl, sym, subst, IfOk, Kind, Network, Document, document_text, IsWithinLimits, size_of}
 use Rattle.dimacs_read.specs.declared.rest.Rest.{Rest}
 use Rattle.dimacs_read.specs.declared.rule.Rule.TheVariants.{UnknownLine}
 use Rattle.dimacs_read.specs.Rest.{IsRest}
 use Rattle.text_check.specs.declared.reply.Reply.{Reply}
 use Rattle.text_check.specs.declared.status.Status.{Status}
 use Rattle.text_check.specs.declared.status.Status.TheVariants.{Done, Rejected, Usage, Malformed, TooLarge, TooLong, ReadFault, WriteFault, OutOfMemory}
-use Rattle.match_cli.specs.Solving.{Solves, SolvedAnswer, DecidesSolved, FollowedAnswer, DecidesFollowed}
+use Rattle.match_cli.specs.Solving.{Solves, SizedAnswer, DecidesSized, FollowedAnswer, DecidesFollowed}
 use Rattle.text_check.specs.Answers.{InputHolds}
 use Rattle.match_cli.specs.Answers.{DecidesSolve}
 use Rattle.text_check.proofs.Checks.{if_ok-map}
 use Rattle.text_check.proofs.InputParts.{rest_empty, rest_some}
 
-pub solved_answers : (kind : Kind) (brief : Bool) (i : Network) (d : Document) {E : Type 0} (r : Result Reply E) → Solves kind i d → IfOk r (λ a. a.text.items ≡ document_text d brief) →
-    IfOk r (λ a. a.status ≡ Done) → IfOk r (DecidesSolved kind brief i)
-solved_answers kind brief i d (Ok a) solves text status = subst (λ (s : Status). SolvedAnswer kind brief i a.text.items s) (sym status) (d, solves, text)
-solved_answers kind brief i d (Err e) solves text status = tt
+-- the answer that is the text of a document
+pub sized_answers : (kind : Kind) (brief : Bool) (i : Network) (d : Document) {E : Type 0} (r : Result Reply E) → IsWithinLimits (size_of kind i) → Solves kind i d →
+    IfOk r (λ a. a.text.items ≡ document_text d brief) → IfOk r (λ a. a.status ≡ Done) → IfOk r (DecidesSized kind brief i)
+sized_answers kind brief i d (Ok a) limits solves text status = subst (λ (s : Status). SizedAnswer kind brief i a.text.items s) (sym status) (limits, (d, solves, text))
+sized_answers kind brief i d (Err e) limits solves text status = tt
 
 decides_from : (kind : Kind) (brief : Bool) (bytes : List ℕ) (i : Network) (rest : Rest) (out : List ℕ) (status : Status) → InputHolds kind bytes i → IsRest bytes rest →
     FollowedAnswer kind brief i rest out status → DecidesSolve kind brief bytes out status

@@ -7,13 +7,12 @@ use Rattle.command_words.specs.declared.command.Command.{Command}
 use Rattle.command_words.specs.declared.command.Command.TheVariants.{Solve, Trial}
 use Rattle.inst_gen.specs.Made.{made}
 use Rattle.text_check.specs.declared.status.Status.{Status}
-use Rattle.text_check.specs.declared.status.Status.TheVariants.{Done, Rejected, Usage, Malformed, TooLarge, TooLong, ReadFault, WriteFault, OutOfMemory}
+use Rattle.text_check.specs.declared.status.Status.TheVariants.{Done}
 use Rattle.text_check.specs.declared.reply.Reply.{Reply}
 use Rattle.match_cli.specs.Commands.{kind_of}
 use Rattle.text_check.specs.Answers.{instance_part, InputHolds}
 use Rattle.match_cli.specs.Answers.{HasInstance}
 use Rattle.match_cli.specs.Counts.{largest, CountsSearch, CountsSteps, CountsAnswer, CountsInstance}
-use Rattle.match_cli.specs.Solving.{DecidesSolved, SolvedAnswer}
 
 -- ---- a search
 
@@ -26,24 +25,6 @@ within_limits size searches before after fits counted =
     let less : most_steps size ≤ most_steps largest = mul-le-mul (mul-le-mul vertices phases) edges in
     let all : searches * most_steps size ≤ searches * most_steps largest = mul-le-mul (let same : searches ≤ searches = omega arith in same) less in
     omega (arith, counted, all)
-
-searched : (kind : Kind) (brief : Bool) (i : Network) (out : List ℕ) (before after : ℕ) (status : Status) → SolvedAnswer kind brief i out status →
-    after ≤ before + searches_of kind * most_steps largest → CountsSteps (Some (Solve kind brief)) before after status
-searched kind brief i out before after Done answer counted = counted
-searched kind brief i out before after Rejected answer counted = absurd answer
-searched kind brief i out before after Usage answer counted = absurd answer
-searched kind brief i out before after Malformed answer counted = absurd answer
-searched kind brief i out before after TooLarge answer counted = absurd answer
-searched kind brief i out before after TooLong answer counted = absurd answer
-searched kind brief i out before after ReadFault answer counted = absurd answer
-searched kind brief i out before after WriteFault answer counted = absurd answer
-searched kind brief i out before after OutOfMemory answer counted = absurd answer
-
-pub search_counts : (kind : Kind) (brief : Bool) (i : Network) (before after : ℕ) {E : Type 0} (r : Result Reply E) → IsWithinLimits (size_of kind i) →
-    IfOk r (DecidesSolved kind brief i) → after ≤ before + searches_of kind * most_steps (size_of kind i) → CountsAnswer (Solve kind brief) before after r
-search_counts kind brief i before after (Ok a) fits answer counted =
-    searched kind brief i a.text.items before after a.status answer (within_limits (size_of kind i) (searches_of kind) before after fits counted)
-search_counts kind brief i before after (Err e) fits answer counted = within_limits (size_of kind i) (searches_of kind) before after fits counted
 
 -- a search that was made counts as its command does
 pub done_counts : (command : Command) (before after : ℕ) {E : Type 0} (r : Result Reply E) → IfOk r (λ a. a.status ≡ Done) → CountsSearch (Some command) before after →

@@ -5,3 +5,4 @@ pub mod Answers
 pub mod Counts
 pub mod Runs
 pub mod Prepared
+pub mod Calls

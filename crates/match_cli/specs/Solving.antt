@@ -35,9 +35,6 @@ SolvedAnswer kind brief i out Done = (d : Document) × Solves kind i d
     × (out ≡ document_text d brief)
 SolvedAnswer kind brief i out status = ⊥
 
-abbrev pub DecidesSolved : Kind → Bool → Network → Reply → Type 0
-DecidesSolved kind brief i a = SolvedAnswer kind brief i a.text.items a.status
-
 -- ---- an instance of any size
 
 abbrev pub SizedAnswer : Kind → Bool → Network → List ℕ → Status → Type 0

@@ -1,5 +1,4 @@
 ghost use Rattle.std.specs.Prelude.{Some, ◌≡◌, ◌≢◌, ◌+◌, ◌*◌, ◌≤◌, ◌^◌, ℕ, List, length, IfOk};
-ghost use Rattle.graph_theory.specs.Limits.{IsWithinLimits};
 ghost use Rattle.mb_problem.specs.Kinds.{searches_of};
 ghost use Rattle.mb_problem.specs.Network.{IsNetwork};
 ghost use Rattle.mb_problem.specs.Size.{size_of};
@@ -9,16 +8,17 @@ ghost use Rattle.mwpm_engine.specs.Solutions.{most_steps};
 ghost use Rattle.doc_format.specs.Spelling.{document_text};
 ghost use Rattle.match_cli.specs.Answers.{DecidesSolve};
 ghost use Rattle.match_cli.specs.Counts.{CountsAnswer, CountsInstance};
-ghost use Rattle.match_cli.specs.Solving.{DecidesSolved, DecidesSized, DecidesFollowed};
+ghost use Rattle.match_cli.specs.Solving.{DecidesSized, DecidesFollowed};
 
 use command_words::Command;
 use dimacs_read::{InstanceError, Rest, Rule, read};
 use doc_format::{Document, write};
+use kind_solver::{SolveError, solve_sized};
 use mb_base::{OutOfMemory, Steps};
-use mb_problem::{Instance, Kind, gadget_size};
+use mb_problem::{Instance, Kind};
 use std::alloc::{AllocError, Global};
 use std::sync::ledger::Ledger;
-use text_check::{Reply, Status, is_within_limits, malformed, too_large};
+use text_check::{Reply, Status, malformed, too_large};
 
 fn solved(alloc: Global, document: &Document, brief: bool) -> Result<Reply, OutOfMemory>
     ensures text { IfOk result (λ a. a.text.items ≡ document_text document.now brief) }
@@ -29,32 +29,7 @@ fn solved(alloc: Global, document: &Document, brief: bool) -> Result<Reply, OutO
     Ok(Reply { text, status })
 }
 
-/// The answer to an instance within the limits.
-fn solve_within<L: Ledger>(
-    alloc: Global,
-    kind: Kind,
-    brief: bool,
-    instance: &Instance,
-    steps: &mut Steps<L>,
-) -> Result<Reply, OutOfMemory>
-    requires ready { IsReady kind instance.now }
-    requires limits { IsWithinLimits (size_of kind instance.now) }
-    requires network { IsNetwork instance.now }
-    ensures answer { IfOk result (DecidesSolved kind brief instance.now) }
-    ensures counted { steps.new ≤ steps.old + searches_of kind * most_steps
-        (size_of kind instance.now) }
-{
-    match kind_solver::solve_written(alloc, instance, kind, brief, steps) {
-        Ok(document) => {
-            let reply = solved(alloc, &document, brief);
-            drop(document);
-            reply
-        }
-        Err(_) => Err(AllocError),
-    }
-}
-
-/// The answer to an instance: its size is tested first.
+/// The answer to an instance: its document, or that its certificate graph is past a limit.
 fn solve_instance<L: Ledger>(
     alloc: Global,
     kind: Kind,
@@ -69,11 +44,15 @@ fn solve_instance<L: Ledger>(
     ensures counted { steps.new ≤ steps.old + searches_of kind * most_steps
         (size_of kind instance.now) }
 {
-    let (vertices, edges) = gadget_size(instance, kind);
-    if !is_within_limits(vertices, edges) {
-        return too_large(alloc, vertices, edges);
+    match solve_sized(alloc, instance, kind, brief, steps) {
+        Ok(document) => {
+            let reply = solved(alloc, &document, brief);
+            drop(document);
+            reply
+        }
+        Err(SolveError::TooLarge { vertices, edges }) => too_large(alloc, vertices, edges),
+        Err(SolveError::OutOfMemory) => Err(AllocError),
     }
-    solve_within(alloc, kind, brief, instance, steps)
 }
 
 /// The answer to an instance and what follows it, which should be nothing.

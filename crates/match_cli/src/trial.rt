@@ -11,13 +11,14 @@ ghost use Rattle.match_cli.specs.Counts.{CountsAnswer};
 ghost use Rattle.match_cli.specs.Trying.{IsTried, DecidesTrial};
 
 use crate::trials::try_instance;
+use certificates::is_within_limits;
 use command_words::Command;
 use inst_gen::make;
 use mb_base::{OutOfMemory, Steps};
 use mb_problem::{EDGE_LIMIT, Instance, Kind, VERTEX_LIMIT, gadget_size};
 use std::alloc::Global;
 use std::sync::ledger::Ledger;
-use text_check::{Reply, Status, is_within_limits, told, too_large};
+use text_check::{Reply, Status, told, too_large};
 
 /// The answer to an instance within the limits: it is solved, and its document judged.
 fn try_within<L: Ledger>(

@@ -8,7 +8,7 @@ use Rattle.mwpm_engine.specs.Solutions.{Solution, IsSolved}
 use Rattle.least_joins.proofs.Listing.{listing}
 use Rattle.document_lines.proofs.DualLines.{lines_to, lines-duals, lines-ascend, lines-within}
 use Rattle.solve_kinds.specs.Presented.{StatesAnswer, Presents, PresentsBriefly, PresentsFor}
-use Rattle.kind_answers.specs.Settled.{Settles, SettlesBare, IsWrittenFor, SettlesFor}
+use Rattle.kind_answers.specs.Settled.{Settles, SettlesBare, SettlesFor}
 use Rattle.kind_answers.specs.Solved.{HasTrueStatus, HasFitWeights}
 use Rattle.solve_kinds.proofs.Forms.{form-completed}
 use Rattle.kind_answers.proofs.InRange.{sets-formed}
@@ -35,10 +35,6 @@ settles-optimal kind i s d few fit of p =
 pub settles-for : (brief : Bool) (kind : Kind) (i : Network) (d : Document) → SettlesBare kind i d → SettlesFor brief kind i d
 settles-for false kind i d h = h.0
 settles-for true kind i d h = record { whole = d; settles = h.0; status = refl; weight = refl; counts = refl; walk = refl; text = refl; bare = λ brief. h.1 }
-
-pub written-for : (brief : Bool) (kind : Kind) (i : Network) (d : Document) → SettlesFor brief kind i d → IsWrittenFor kind i brief d
-written-for false kind i d h = record { whole = d; settles = h; status = refl; weight = refl; counts = refl; walk = refl; text = refl; bare = λ brief. absurd (cc) }
-written-for true kind i d h = h
 
 -- in brief the text tells of the answer alone
 

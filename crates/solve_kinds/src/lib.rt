@@ -12,4 +12,4 @@ mod searching;
 mod solving;
 
 pub use kind_answers::{DOCUMENT_BYTE_LIMIT, PATHS_BYTE_LIMIT, infeasible_by};
-pub use solving::{solve, solve_written};
+pub use solving::{solve, solve_brief};

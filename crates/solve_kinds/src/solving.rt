@@ -8,7 +8,8 @@ ghost use Rattle.doc_format.specs.declared.status.DocStatus.TheVariants.{Infeasi
 ghost use Rattle.certificates.specs.Proved.{IsProved, StatesTruth};
 ghost use Rattle.mwpm_engine.specs.Solutions.{most_steps};
 ghost use Rattle.kind_answers.specs.Chosen.{IsChosen};
-ghost use Rattle.kind_answers.specs.Settled.{HasShortWalk, IsWrittenFor, SettlesFor, byte_limit_of};
+ghost use Rattle.kind_answers.specs.Settled.{HasShortWalk, IsWrittenFor, Settles};
+ghost use Rattle.kind_answers.specs.Settled.{SettlesFor, byte_limit_of};
 ghost use Rattle.kind_answers.specs.Solved.{HasTrueStatus, is_tested_first};
 
 use crate::conservative::unfit;
@@ -50,15 +51,15 @@ fn solve_for<L: Ledger>(
     searched(alloc, instance, kind, brief, steps)
 }
 
-/// Solves an instance: the document of a best answer, or of what excludes all answers. It proves
-/// what it states, whole: an accepting judge is sure. A perfect matching of least weight is sought
-/// in the certificate graph of the kind (Schrijver, Combinatorial Optimization, volume A, chapter
-/// 26 for matchings, 29 for joins, tours and paths, 31 to 33 for b-matchings, capacities and
-/// factors, 35 for degrees between two bounds). If the kind asks for conservative weights and some
-/// edge weighs less than 0, an even set of edges of least weight is sought first, to tell whether
-/// they are. The instance has what the kind needs: for a tour no edge weighs less than 0, for a
-/// path two vertices have odd values, its ends, and for a path of an odd or an even number of edges
-/// both hold.
+/// Solves an instance of a kind whose best answers duals prove: the document of a best answer, or of
+/// what excludes all answers. It proves what it states, whole: an accepting judge is sure. A perfect
+/// matching of least weight is sought in the certificate graph of the kind (Schrijver, Combinatorial
+/// Optimization, volume A, chapter 26 for matchings, 29 for joins, tours and paths, 31 to 33 for
+/// b-matchings, capacities and factors, 35 for degrees between two bounds). If the kind asks for
+/// conservative weights and some edge weighs less than 0, an even set of edges of least weight is
+/// sought first, to tell whether they are. The instance has what the kind needs: for a tour no edge
+/// weighs less than 0, for a path two vertices have odd values, its ends, and for a path of an odd
+/// or an even number of edges both hold.
 ///
 /// The steps of the searches are counted on `steps`: looks at edges and events. What it takes
 /// besides them is linear in that graph and the members of the sets, but for sets of less than a
@@ -97,6 +98,9 @@ pub fn solve<L: Ledger>(
     // A walk has at most twice as many edges as the instance.
     ensures short_walk { IfOk result (HasShortWalk instance.now) }
 
+    // All of this by one name, which callers pass on.
+    ensures settled { IfOk result (Settles kind instance.now) }
+
     // Within the steps of one search on the certificate graph, two for a path if some weight is
     // negative.
     ensures steps { steps.new ≤ steps.old
@@ -111,26 +115,27 @@ pub fn solve<L: Ledger>(
     solve_for(alloc, instance, kind, false, steps)
 }
 
-/// The same for a document that is to be written, in full or in brief: it has the text of a
-/// document that `solve` could answer. In brief it has no duals and no sets, which are not written
-/// then.
-pub fn solve_written<L: Ledger>(
+/// The same for a document that is to be written in brief: it has the text of a document that
+/// `solve` could answer, and no duals and no sets, which are not written then.
+///
+/// # Errors
+///
+/// `OutOfMemory` if an allocation fails.
+pub fn solve_brief<L: Ledger>(
     alloc: Global,
     instance: &Instance,
     kind: Kind,
-    brief: bool,
     steps: &mut Steps<L>,
 ) -> Result<Document, OutOfMemory>
     requires limits { IsWithinLimits (size_of kind instance.now) }
     requires duals { are_duals (proof_of kind) ≡ true }
     requires ready { IsReady kind instance.now }
 
-    // A document to be written, with or without certificate, with the text of one of which all of
-    // this holds, and without duals and odd sets in the second case.
-    ensures written { IfOk result (IsWrittenFor kind instance.now brief) }
+    // A document to be written without certificate, with the text of one of which all of this
+    // holds, and without duals and odd sets.
+    ensures written { IfOk result (IsWrittenFor kind instance.now true) }
 
-    // In full it settles the instance itself.
-    ensures settled { IfOk result (SettlesFor brief kind instance.now) }
+    // Within the same steps.
     ensures steps { steps.new ≤ steps.old
         + searches_of kind * most_steps (size_of kind instance.now) }
     ensures once { HasWeightsFromZero instance.now
@@ -138,5 +143,5 @@ pub fn solve_written<L: Ledger>(
     ensures unsearched { IfOk result
         (λ d. is_tested_first kind ≡ true → d.status ≡ Infeasible → steps.new ≡ steps.old) }
 {
-    solve_for(alloc, instance, kind, brief, steps)
+    solve_for(alloc, instance, kind, true, steps)
 }

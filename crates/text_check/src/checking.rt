@@ -7,10 +7,11 @@ ghost use Rattle.doc_format.specs.Reading.{Reads as ReadsDocument};
 ghost use Rattle.text_check.specs.Answers.{Decides};
 ghost use Rattle.text_check.specs.Checking.{DecidesDocument, DecidesRest, DecidesInstance};
 
-use crate::refusal::{is_within_limits, malformed, too_large};
+use crate::refusal::{malformed, too_large};
 use crate::reply::Reply;
 use crate::verdict::{judged, rejected};
 use cert_check::{DocRule, judge};
+use certificates::is_within_limits;
 use dimacs_read::{InstanceError, Rest, read};
 use doc_format::{DocError, Document};
 use mb_base::OutOfMemory;

@@ -14,7 +14,7 @@ mod trial_lines;
 mod verdict;
 
 pub use checking::{check, check_input};
-pub use refusal::{is_within_limits, malformed, too_large, too_long};
+pub use refusal::{malformed, too_large, too_long};
 pub use reply::Reply;
 pub use reread::judge_text;
 pub use status::Status;

@@ -1,11 +1,9 @@
-ghost use Rattle.std.specs.Prelude.{◌≡◌, ◌↔◌, IsTrue, IfOk, codes};
-ghost use Rattle.graph_theory.specs.Limits.{IsWithinLimits};
+ghost use Rattle.std.specs.Prelude.{◌≡◌, IfOk, codes};
 ghost use Rattle.text_check.specs.Lines.{malformed_line, too_large_line};
 
 use crate::reply::{Reply, line, line_of_size};
 use crate::status::Status;
 use dimacs_read::Rule;
-use graph_theory::{GRAPH_EDGE_LIMIT, GRAPH_VERTEX_LIMIT};
 use mb_base::OutOfMemory;
 use std::alloc::Global;
 
@@ -22,16 +20,6 @@ pub fn malformed(alloc: Global, rule: Rule, number: u64) -> Result<Reply, OutOfM
     let text = line(alloc, b"s MALFORMED ", rule.name().as_bytes(), number)?;
     let status = Status::Malformed;
     Ok(Reply { text, status })
-}
-
-/// Whether a graph of this size may be searched and certified.
-pub fn is_within_limits(vertices: u64, edges: u64) -> bool
-    ensures { IsTrue result ↔ IsWithinLimits (record { vertices = vertices; edges = edges }) }
-{
-    if vertices > u64::from(GRAPH_VERTEX_LIMIT) {
-        return false;
-    }
-    edges <= u64::from(GRAPH_EDGE_LIMIT)
 }
 
 /// The answer to an instance whose certificate graph is past a limit, and the size of that graph.

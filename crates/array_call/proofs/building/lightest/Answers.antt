@@ -1,5 +1,5 @@
 use Rattle.certificates.proofs.Common.{◌≡◌, true, List, length, All, Option, Some, sym, subst, rules, CountLine, MemberLine, Body, blank, ascends, AscendsBy}
-use Rattle.dual_free_kinds.proofs.Forms.{form-lightest}
+use Rattle.kind_solver.proofs.Forms.{form-lightest}
 use Rattle.solve_kinds.proofs.Forms.{formed-as as formed-by}
 use Rattle.array_call.specs.Sheets.{IsCountOn}
 use Rattle.array_call.proofs.building.lightest.Goals as goal

@@ -1,2 +1,0 @@
-pub mod Lightest
-pub mod Greatest

@@ -1,0 +1,3 @@
+pub mod Lightest
+pub mod Greatest
+pub mod Sized
