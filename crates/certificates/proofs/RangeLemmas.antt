@@ -1,11 +1,11 @@
 -- The first fault of the lines of a document, letter by letter.
-use Rattle.graph_theory.proofs.Common.{◌≡◌, ℕ, suc, ◌+◌, Bool, not, List, [], ◌∷◌, ◌++◌, length, map, Option, None, Some, refl, sym, ap, ◌∙◌, arith, option_map}
+use Rattle.graph_theory.proofs.Common.{◌≡◌, ℕ, ◌+◌, Bool, not, List, [], ◌∷◌, ◌++◌, map, Option, None, Some, refl, sym, ap, ap₂, ◌∙◌, arith, option_map, AllByRecursion}
 use Rattle.graph_theory.proofs.Common.{option_or, find-append}
-use Rattle.doc_format.specs.declared.part.SetLine.{SetLine}
-use Rattle.doc_format.specs.declared.part.PathLine.{PathLine}
 use Rattle.doc_format.specs.declared.part.Part.{Part}
-use Rattle.doc_format.specs.declared.part.Part.TheVariants.{Count, Walk, Dual, Set, Outer, Barrier, Odd, Split, Even}
-use Rattle.doc_format.specs.Parts.{Body, at_most_one, parts_of, line_of, set_count}
+use Rattle.doc_format.specs.declared.part.Part.TheVariants.{Set}
+use Rattle.doc_format.specs.Parts.{Body, parts_of, line_of, set_count}
+use Rattle.doc_format.proofs.Tests.{joined}
+use Rattle.doc_format.proofs.PartLaws.{HasNoSets, before_sets, after_sets, by_letter, joined_parts, none_before, none_after}
 use Rattle.certificates.specs.Ranges.{Checked, first_fault, in_range, checked}
 
 option_or-line : (a b : Option Checked) → option_map (λ l. l.line) (option_or a b) ≡ option_or (option_map (λ l. l.line) a) (option_map (λ l. l.line) b)
@@ -16,87 +16,84 @@ option_or-line (Some x) b = refl
 first-append : (xs ys : List Checked) → first_fault (xs ++ ys) ≡ option_or (first_fault xs) (first_fault ys)
 first-append xs ys = rw (find-append (λ (l : Checked). not l.in_range) xs ys, option_or-line) refl
 
+-- the first fault of several lists, by that of each
+abbrev pub first_of : List (Option ℕ) → Option ℕ
+first_of [] = None
+first_of (o ∷ []) = o
+first_of (o ∷ p ∷ os) = option_or o (first_of (p ∷ os))
+
+or-none : (o : Option ℕ) → o ≡ option_or o None
+or-none None = refl
+or-none (Some k) = refl
+
+pub first_of-cons : (o : Option ℕ) (os : List (Option ℕ)) → first_of (o ∷ os) ≡ option_or o (first_of os)
+first_of-cons o [] = or-none o
+first_of-cons o (p ∷ os) = refl
+
+-- how many z lines there are
+abbrev sets_in : List Part → ℕ
+sets_in [] = 0
+sets_in (part ∷ parts) = set_count part + sets_in parts
+
+no-sets_in : (parts : List Part) → HasNoSets parts → sets_in parts ≡ 0
+no-sets_in [] none = refl
+no-sets_in (part ∷ parts) none = omega (arith, none.0, no-sets_in parts none.1)
+
 module _ (n m p : ℕ) where
-  -- lines of a letter that is no z are checked as if they stood alone
-  many : {A : Type 0} (made : A → Part) (none : (x : A) → set_count (made x) ≡ 0) (k : ℕ) (xs : List A) (ys : List Part) →
-      checked n m p k (map made xs ++ ys) ≡ checked n m p k (map made xs) ++ checked n m p k ys
-  many made none k [] ys = refl
-  many made none k (x ∷ xs) ys =
-      let here : Checked = record { line = line_of (made x); in_range = in_range n m p k (made x) } in
-      let same : k + set_count (made x) ≡ k = omega (arith, none x) in
-      ap (λ (j : ℕ). here ∷ checked n m p j (map made xs ++ ys)) same
-      ∙ ap (λ (cs : List Checked). here ∷ cs) (many made none k xs ys)
-      ∙ ap (λ (j : ℕ). here ∷ (checked n m p j (map made xs) ++ checked n m p k ys)) (sym same)
+  -- each z line counts for the lines after it
+  checked-append : (k : ℕ) (xs ys : List Part) → checked n m p k (xs ++ ys) ≡ checked n m p k xs ++ checked n m p (k + sets_in xs) ys
+  checked-append k [] ys = (let same : k ≡ k + 0 = omega arith in ap (λ (j : ℕ). checked n m p j ys) same)
+  checked-append k (x ∷ xs) ys =
+      let here : Checked = record { line = line_of x; in_range = in_range n m p k x } in
+      let j = k + set_count x in
+      let same : j + sets_in xs ≡ k + (set_count x + sets_in xs) = omega arith in
+      ap (λ (cs : List Checked). here ∷ cs) (checked-append j xs ys ∙ ap (λ (q : ℕ). checked n m p j xs ++ checked n m p q ys) same)
 
-  one : {A : Type 0} (made : A → Part) (none : (x : A) → set_count (made x) ≡ 0) (k : ℕ) (o : Option A) (ys : List Part) →
-      checked n m p k (at_most_one made o ++ ys) ≡ checked n m p k (at_most_one made o) ++ checked n m p k ys
-  one made none k None ys = refl
-  one made none k (Some x) ys =
-      let here : Checked = record { line = line_of (made x); in_range = in_range n m p k (made x) } in
-      let same : k + set_count (made x) ≡ k = omega (arith, none x) in
-      ap (λ (j : ℕ). here ∷ checked n m p j ys) same
+  -- and for none of another letter
+  range-alike : (k : ℕ) (part : Part) → set_count part ≡ 0 → in_range n m p k part ≡ in_range n m p 0 part
+  range-alike k (Set z) none = absurd (omega (arith, none))
+  range-alike k other none = refl
 
-  -- each z line counts for those after it
-  sets : (k : ℕ) (zs : List SetLine) (ys : List Part) → checked n m p k (map Set zs ++ ys) ≡ checked n m p k (map Set zs) ++ checked n m p (k + length zs) ys
-  sets k [] ys = (let same : k ≡ k + 0 = omega arith in ap (λ (j : ℕ). checked n m p j ys) same)
-  sets k (z ∷ zs) ys =
-      let here : Checked = record { line = z.line; in_range = in_range n m p k (Set z) } in
-      let same : k + 1 + length zs ≡ k + suc (length zs) = omega arith in
-      ap (λ (cs : List Checked). here ∷ cs) (sets (k + 1) zs ys)
-      ∙ ap (λ (j : ℕ). here ∷ (checked n m p (k + 1) (map Set zs) ++ checked n m p j ys)) same
+  alike : (k : ℕ) (parts : List Part) → HasNoSets parts → checked n m p k parts ≡ checked n m p 0 parts
+  alike k [] none = refl
+  alike k (x ∷ xs) none =
+      let here : Checked = record { line = line_of x; in_range = in_range n m p 0 x } in
+      ap (λ (b : Bool). record { line = line_of x; in_range = b } ∷ checked n m p (k + set_count x) xs) (range-alike k x none.0)
+      ∙ ap (λ (cs : List Checked). here ∷ cs) (alike (k + set_count x) xs none.1 ∙ sym (alike (0 + set_count x) xs none.1))
 
-  -- and not for lines of other letters
-  abbrev IsAlike : List Part → Type 0
-  IsAlike parts = (k : ℕ) → checked n m p k parts ≡ checked n m p 0 parts
+  -- what is at fault first in a list of lines, after k z lines or after none
+  abbrev fault_after : ℕ → List Part → Option ℕ
+  fault_after k parts = first_fault (checked n m p k parts)
 
-  alike-one : {A : Type 0} (made : A → Part) (none : (x : A) → set_count (made x) ≡ 0) (same : (k : ℕ) (x : A) → in_range n m p k (made x) ≡ in_range n m p 0 (made x)) →
-      (o : Option A) (ys : List Part) → IsAlike ys → IsAlike (at_most_one made o ++ ys)
-  alike-one made none same None ys alike k = alike k
-  alike-one made none same (Some x) ys alike k =
-      ap (λ (b : Bool). record { line = line_of (made x); in_range = b } ∷ checked n m p (k + set_count (made x)) ys) (same k x)
-      ∙ ap (λ (cs : List Checked). record { line = line_of (made x); in_range = in_range n m p 0 (made x) } ∷ cs)
-      (alike (k + set_count (made x)) ∙ sym (alike (0 + set_count (made x))))
-
-  alike-paths : (rs : List PathLine) → IsAlike (map Even rs)
-  alike-paths [] k = refl
-  alike-paths (r ∷ rs) k = ap (λ (cs : List Checked). record { line = r.line; in_range = in_range n m p 0 (Even r) } ∷ cs) (alike-paths rs (k + 0) ∙ sym (alike-paths rs 0))
-
-  -- what is at fault first in a list of lines
   abbrev pub fault_in : List Part → Option ℕ
-  fault_in parts = first_fault (checked n m p 0 parts)
+  fault_in parts = fault_after 0 parts
+
+  fault-append : (k : ℕ) (xs ys : List Part) → fault_after k (xs ++ ys) ≡ option_or (fault_after k xs) (fault_after (k + sets_in xs) ys)
+  fault-append k xs ys = ap first_fault (checked-append k xs ys) ∙ first-append (checked n m p k xs) (checked n m p (k + sets_in xs) ys)
+
+  -- lists without z lines
+  first-after : (k : ℕ) (lists : List (List Part)) → AllByRecursion HasNoSets lists → fault_after k (joined lists) ≡ first_of (map fault_in lists)
+  first-after k [] none = refl
+  first-after k (parts ∷ lists) none =
+      fault-append k parts (joined lists)
+      ∙ ap₂ option_or (ap first_fault (alike k parts none.0)) (first-after (k + sets_in parts) lists none.1)
+      ∙ sym (first_of-cons (fault_in parts) (map fault_in lists))
+
+  -- a list with z lines between lists without
+  first-around : (before : List (List Part)) (sets : List Part) (after : List (List Part)) → AllByRecursion HasNoSets before → AllByRecursion HasNoSets after →
+      fault_in (joined (before ++ sets ∷ after)) ≡ first_of (map fault_in (before ++ sets ∷ after))
+  first-around [] sets after none others =
+      fault-append 0 sets (joined after)
+      ∙ ap (option_or (fault_in sets)) (first-after (0 + sets_in sets) after others)
+      ∙ sym (first_of-cons (fault_in sets) (map fault_in after))
+  first-around (parts ∷ before) sets after none others =
+      let lists = before ++ sets ∷ after in
+      let start : 0 + sets_in parts ≡ 0 = omega (arith, no-sets_in parts none.0) in
+      fault-append 0 parts (joined lists)
+      ∙ ap (λ (k : ℕ). option_or (fault_in parts) (fault_after k (joined lists))) start
+      ∙ ap (option_or (fault_in parts)) (first-around before sets after none.1 others)
+      ∙ sym (first_of-cons (fault_in parts) (map fault_in lists))
 
   -- the first fault of a document, letter by letter
-  pub first_of_all : (b : Body) → fault_in (parts_of b) ≡ option_or (fault_in (map Count b.counts)) (option_or (fault_in (at_most_one Walk b.walk))
-      (option_or (fault_in (map Dual b.duals)) (option_or (fault_in (map Set b.sets)) (option_or (fault_in (at_most_one Outer b.outer))
-      (option_or (fault_in (at_most_one Barrier b.barrier)) (option_or (fault_in (at_most_one Odd b.odd))
-      (option_or (fault_in (at_most_one Split b.split)) (fault_in (map Even b.paths)))))))))
-  first_of_all b =
-      let even = map Even b.paths in
-      let split = at_most_one Split b.split ++ even in
-      let odd = at_most_one Odd b.odd ++ split in
-      let barrier = at_most_one Barrier b.barrier ++ odd in
-      let outer = at_most_one Outer b.outer ++ barrier in
-      let set = map Set b.sets ++ outer in
-      let dual = map Dual b.duals ++ set in
-      let walk = at_most_one Walk b.walk ++ dual in
-      let c : List Part → List Checked = checked n m p 0 in
-      let even_alike : IsAlike even = alike-paths b.paths in
-      let split_alike : IsAlike split = alike-one Split (λ q. refl) (λ k q. refl) b.split even even_alike in
-      let odd_alike : IsAlike odd = alike-one Odd (λ t. refl) (λ k t. refl) b.odd split split_alike in
-      let barrier_alike : IsAlike barrier = alike-one Barrier (λ u. refl) (λ k u. refl) b.barrier odd odd_alike in
-      let rest = alike-one Outer (λ d. refl) (λ k d. refl) b.outer barrier barrier_alike (0 + length b.sets) in
-      let f1 = ap first_fault (many Count (λ x. refl) 0 b.counts walk) ∙ first-append (c (map Count b.counts)) (c walk) in
-      let f2 = ap first_fault (one Walk (λ x. refl) 0 b.walk dual) ∙ first-append (c (at_most_one Walk b.walk)) (c dual) in
-      let f3 = ap first_fault (many Dual (λ x. refl) 0 b.duals set) ∙ first-append (c (map Dual b.duals)) (c set) in
-      let f4 = ap first_fault (sets 0 b.sets outer ∙ ap (λ (cs : List Checked). c (map Set b.sets) ++ cs) rest) ∙ first-append (c (map Set b.sets)) (c outer) in
-      let f5 = ap first_fault (one Outer (λ x. refl) 0 b.outer barrier) ∙ first-append (c (at_most_one Outer b.outer)) (c barrier) in
-      let f6 = ap first_fault (one Barrier (λ x. refl) 0 b.barrier odd) ∙ first-append (c (at_most_one Barrier b.barrier)) (c odd) in
-      let f7 = ap first_fault (one Odd (λ x. refl) 0 b.odd split) ∙ first-append (c (at_most_one Odd b.odd)) (c split) in
-      f1
-      ∙ ap (option_or (fault_in (map Count b.counts))) (f2
-      ∙ ap (option_or (fault_in (at_most_one Walk b.walk))) (f3
-      ∙ ap (option_or (fault_in (map Dual b.duals))) (f4
-      ∙ ap (option_or (fault_in (map Set b.sets))) (f5
-      ∙ ap (option_or (fault_in (at_most_one Outer b.outer))) (f6
-      ∙ ap (option_or (fault_in (at_most_one Barrier b.barrier))) (f7
-      ∙ ap (option_or (fault_in (at_most_one Odd b.odd))) (ap first_fault (one Split (λ x. refl) 0 b.split even) ∙ first-append (c (at_most_one Split b.split)) (c even))))))))
+  pub first_of_all : (b : Body) → fault_in (parts_of b) ≡ first_of (map fault_in (by_letter b))
+  first_of_all b = ap fault_in (sym (joined_parts b)) ∙ first-around (before_sets b) (map Set b.sets) (after_sets b) (none_before b) (none_after b)

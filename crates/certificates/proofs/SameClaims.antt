@@ -23,7 +23,7 @@ use Rattle.doc_format.specs.declared.part.SetLine.{SetLine}
 use Rattle.doc_format.specs.declared.part.MemberLine.{MemberLine}
 use Rattle.doc_format.specs.declared.part.PathLine.{PathLine}
 use Rattle.doc_format.specs.declared.part.Part.{Part}
-use Rattle.doc_format.specs.declared.part.Part.TheVariants.{Count, Walk, Dual, Set, Outer, Barrier, Odd, Split, Even}
+use Rattle.doc_format.specs.declared.part.Part.TheVariants.{Set}
 use Rattle.doc_format.specs.declared.document.Document.{Document}
 use Rattle.doc_format.specs.Parts.{Body, parts_of, set_count}
 use Rattle.doc_format.proofs.PartLaws.{bare, line_laws}
@@ -41,15 +41,8 @@ use Rattle.mb_problem.specs.declared.kind.AnswerForm.TheVariants as form
 -- ---- what is claimed doesn't hang on the numbers of lines
 
 set_count-bare : (part : Part) → set_count (unnumbered part) ≡ set_count part
-set_count-bare (Count x) = refl
-set_count-bare (Walk w) = refl
-set_count-bare (Dual y) = refl
 set_count-bare (Set z) = refl
-set_count-bare (Outer d) = refl
-set_count-bare (Barrier u) = refl
-set_count-bare (Odd t) = refl
-set_count-bare (Split q) = refl
-set_count-bare (Even r) = refl
+set_count-bare other = refl
 
 all-bare : (n m p k : ℕ) (parts : List Part) → all_in_range n m p k (map unnumbered parts) ≡ all_in_range n m p k parts
 all-bare n m p k [] = refl

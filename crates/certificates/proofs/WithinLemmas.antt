@@ -1,7 +1,7 @@
 -- Where no line is at fault every number is in its range.
-use Rattle.mb_problem.proofs.Common.{◌≡◌, ℕ, zero, suc, ◌+◌, ◌<◌, ℤ, pos, neg_ℤ, nat_abs, ◌≤ℤ◌, Bool, true, false, not, cond, List, [], ◌∷◌, ◌++◌}
-use Rattle.mb_problem.proofs.Common.{length, map, get_or, All, Option, None, Some, IfSome, refl, sym, ap, ◌∙◌, subst, arith, int_le, option_map, list_all, find, and_parts, and_from}
-use Rattle.mb_problem.proofs.Common.{append-nil, All-nil, All-cons, All-weaker, NUMBER_LIMIT, IsNumber, Network, vertices, int_le-true, int_le-yes}
+use Rattle.mb_problem.proofs.Common.{◌≡◌, ℕ, zero, suc, ◌+◌, ◌<◌, ℤ, pos, neg_ℤ, nat_abs, ◌≤ℤ◌, Bool, true, false, not, cond, List, [], ◌∷◌}
+use Rattle.mb_problem.proofs.Common.{length, map, get_or, All, Option, None, Some, IfSome, refl, sym, ◌∙◌, subst, arith, int_le, option_map, option_or, list_all, AllByRecursion, find, and_parts, and_from}
+use Rattle.mb_problem.proofs.Common.{All-nil, All-cons, All-weaker, NUMBER_LIMIT, IsNumber, Network, vertices, int_le-true, int_le-yes}
 use Rattle.mb_problem.specs.declared.kind.Kind.{Kind}
 use Rattle.mb_problem.specs.declared.limits.TheConstants.{VALUE_LIMIT}
 use Rattle.gadget_base.specs.Certified.{gadget_graph}
@@ -17,7 +17,9 @@ use Rattle.doc_format.specs.declared.part.Part.{Part}
 use Rattle.doc_format.specs.declared.part.Part.TheVariants.{Count, Walk, Dual, Set, Outer, Barrier, Odd, Split, Even}
 use Rattle.doc_format.specs.Parts.{Body, at_most_one, parts_of, line_of, item_passes, set_count}
 use Rattle.doc_format.specs.Reading.{body_of}
+use Rattle.doc_format.proofs.PartLaws.{by_letter, letter_by_letter}
 use Rattle.certificates.specs.Ranges.{Checked, first_fault, first_out_of_range, is_between, is_up_to, is_dual, is_set_dual, is_within, in_range, all_in_range, checked}
+use Rattle.certificates.proofs.RangeLemmas.{first_of, first_of-cons, fault_in, first_of_all}
 use Rattle.certificates.specs.Within.{IsUpTo, IsSetDual, IsCountWithin, IsWalkWithin, IsPathWithin, IsDualWithin, IsItemWithin, IsSetLineWithin, AreSetLinesWithin, AreWithin}
 
 pub one_in_range : (b : Bool) (c : Checked) (rest : Option Checked) → option_map (λ (l : Checked). l.line) (cond (not b) (Some c) rest) ≡ None →
@@ -93,37 +95,40 @@ set_places p k y zs first others (suc j) z below is =
 
 -- ---- letter by letter
 
+both-none : (o q : Option ℕ) → option_or o q ≡ None → (o ≡ None) × (q ≡ None)
+both-none None q h = (refl, h)
+both-none (Some k) q h = absurd (cc)
+
 module _ (n m p : ℕ) where
-  -- the lines of a letter that is no z, and those after them
-  many : {A : Type 0} (made : A → Part) (P : A → Type 0) (none : (x : A) → set_count (made x) ≡ 0) (each : (k : ℕ) (x : A) → in_range n m p k (made x) ≡ true → P x) →
-      (k : ℕ) (xs : List A) (ys : List Part) → all_in_range n m p k (map made xs ++ ys) ≡ true → All P xs × (all_in_range n m p k ys ≡ true)
-  many made P none each k [] ys h = (All-nil P, h)
-  many made P none each k (x ∷ xs) ys h =
-      let both = and_parts (in_range n m p k (made x)) (all_in_range n m p (k + set_count (made x)) (map made xs ++ ys)) h in
-      let same : k + set_count (made x) ≡ k = omega (arith, none x) in
-      let others = many made P none each k xs ys (subst (λ (j : ℕ). all_in_range n m p j (map made xs ++ ys) ≡ true) same both.1) in
-      (All-cons P x xs (each k x both.0) others.0, others.1)
+  -- where no list of several has a fault, none of each has
+  each-in_range : (lists : List (List Part)) → first_of (map (fault_in n m p) lists) ≡ None → AllByRecursion (λ parts. all_in_range n m p 0 parts ≡ true) lists
+  each-in_range [] h = tt
+  each-in_range (parts ∷ lists) h =
+      let faults = map (fault_in n m p) lists in
+      let both = both-none (fault_in n m p parts) (first_of faults) (sym (first_of-cons (fault_in n m p parts) faults) ∙ h) in
+      (all-in_range n m p 0 parts both.0, each-in_range lists both.1)
 
-  -- the one line of a letter, where there is one, and those after it
-  one : {A : Type 0} (made : A → Part) (P : A → Type 0) (none : (x : A) → set_count (made x) ≡ 0) (each : (k : ℕ) (x : A) → in_range n m p k (made x) ≡ true → P x) →
-      (k : ℕ) (o : Option A) (ys : List Part) → all_in_range n m p k (at_most_one made o ++ ys) ≡ true → IfSome o P × (all_in_range n m p k ys ≡ true)
-  one made P none each k None ys h = (tt, h)
-  one made P none each k (Some x) ys h =
-      let both = and_parts (in_range n m p k (made x)) (all_in_range n m p (k + set_count (made x)) ys) h in
-      let same : k + set_count (made x) ≡ k = omega (arith, none x) in
-      (each k x both.0, subst (λ (j : ℕ). all_in_range n m p j ys ≡ true) same both.1)
+  -- the lines of a letter that is no z
+  many : {A : Type 0} (made : A → Part) (P : A → Type 0) (each : (k : ℕ) (x : A) → in_range n m p k (made x) ≡ true → P x) →
+      (k : ℕ) (xs : List A) → all_in_range n m p k (map made xs) ≡ true → All P xs
+  many made P each k [] h = All-nil P
+  many made P each k (x ∷ xs) h =
+      let both = and_parts (in_range n m p k (made x)) (all_in_range n m p (k + set_count (made x)) (map made xs)) h in
+      All-cons P x xs (each k x both.0) (many made P each (k + set_count (made x)) xs both.1)
 
-  -- the z lines after k others, and those after them
-  sets : (k : ℕ) (zs : List SetLine) (ys : List Part) → all_in_range n m p k (map Set zs ++ ys) ≡ true →
-      ((j : ℕ) (z : SetLine) → j < length zs → z ≡ get_or zs j z → IsSetLineWithin p (k + j) z) × (all_in_range n m p (k + length zs) ys ≡ true)
-  sets k [] ys h =
-      let same : k ≡ k + 0 = omega arith in
-      ((λ j z below is. absurd (omega arith)), subst (λ (j : ℕ). all_in_range n m p j ys ≡ true) same h)
-  sets k (z ∷ zs) ys h =
-      let both = and_parts (in_range n m p k (Set z)) (all_in_range n m p (k + 1) (map Set zs ++ ys)) h in
-      let others = sets (k + 1) zs ys both.1 in
-      let size : k + 1 + length zs ≡ k + suc (length zs) = omega arith in
-      (set_places p k z zs (set_within n m p k z both.0) others.0, subst (λ (j : ℕ). all_in_range n m p j ys ≡ true) size others.1)
+  -- the one line of a letter, where there is one
+  one : {A : Type 0} (made : A → Part) (P : A → Type 0) (each : (x : A) → in_range n m p 0 (made x) ≡ true → P x) →
+      (o : Option A) → all_in_range n m p 0 (at_most_one made o) ≡ true → IfSome o P
+  one made P each None h = tt
+  one made P each (Some x) h = each x (and_parts (in_range n m p 0 (made x)) true h).0
+
+  -- the z lines after k others
+  sets : (k : ℕ) (zs : List SetLine) → all_in_range n m p k (map Set zs) ≡ true →
+      (j : ℕ) (z : SetLine) → j < length zs → z ≡ get_or zs j z → IsSetLineWithin p (k + j) z
+  sets k [] h = λ j z below is. absurd (omega arith)
+  sets k (z ∷ zs) h =
+      let both = and_parts (in_range n m p k (Set z)) (all_in_range n m p (k + 1) (map Set zs)) h in
+      set_places p k z zs (set_within n m p k z both.0) (sets (k + 1) zs both.1)
 
 -- the parts of a document whose numbers are in range
 record LinesWithin (n m p : ℕ) (b : Body) : Type 0 where
@@ -139,28 +144,21 @@ record LinesWithin (n m p : ℕ) (b : Body) : Type 0 where
 
 lines_within : (n m p : ℕ) (b : Body) → all_in_range n m p 0 (parts_of b) ≡ true → LinesWithin n m p b
 lines_within n m p b h =
-    let even = map Even b.paths in
-    let split = at_most_one Split b.split ++ even in
-    let odd = at_most_one Odd b.odd ++ split in
-    let barrier = at_most_one Barrier b.barrier ++ odd in
-    let outer = at_most_one Outer b.outer ++ barrier in
-    let set = map Set b.sets ++ outer in
-    let dual = map Dual b.duals ++ set in
-    let walk = at_most_one Walk b.walk ++ dual in
-    let h1 = many n m p Count (IsCountWithin m) (λ x. refl) (count_within n m p) 0 b.counts walk h in
-    let h2 = one n m p Walk (IsWalkWithin n m) (λ x. refl) (walk_within n m p) 0 b.walk dual h1.1 in
-    let h3 = many n m p Dual (IsDualWithin p) (λ x. refl) (dual_within n m p) 0 b.duals set h2.1 in
-    let h4 = sets n m p 0 b.sets outer h3.1 in
-    let k = 0 + length b.sets in
-    let h5 = one n m p Outer (λ d. All (IsUpTo n) d.members) (λ x. refl) (λ j u t. all_up_to n u.members t) k b.outer barrier h4.1 in
-    let h6 = one n m p Barrier (λ u. All (IsUpTo p) u.members) (λ x. refl) (λ j u t. all_up_to p u.members t) k b.barrier odd h5.1 in
-    let h7 = one n m p Odd (λ t. All (IsUpTo n) t.members) (λ x. refl) (λ j u t. all_up_to n u.members t) k b.odd split h6.1 in
-    let h8 = one n m p Split (λ q. All (IsUpTo n) q.members) (λ x. refl) (λ j u t. all_up_to n u.members t) k b.split even h7.1 in
-    let last : all_in_range n m p k (even ++ []) ≡ true = ap (all_in_range n m p k) (append-nil even) ∙ h8.1 in
-    let h9 = many n m p Even (IsPathWithin n m) (λ x. refl) (path_within n m p) k b.paths [] last in
+    let none = sym (first_of_all n m p b) ∙ none_faulty n m p 0 (parts_of b) h in
+    let each = letter_by_letter (λ parts. all_in_range n m p 0 parts ≡ true) b (each-in_range n m p (by_letter b) none) in
     let sets : AreSetLinesWithin p b.sets = λ j z below is.
-    (let place : 0 + j ≡ j = omega arith in subst (λ (q : ℕ). IsSetLineWithin p q z) place (h4.0 j z below is)) in
-    record { counts = h1.0; walk = h2.0; duals = h3.0; sets = sets; outer = h5.0; barrier = h6.0; odd = h7.0; split = h8.0; paths = h9.0 }
+    (let place : 0 + j ≡ j = omega arith in subst (λ (q : ℕ). IsSetLineWithin p q z) place (sets n m p 0 b.sets each.sets j z below is)) in
+    record {
+      counts = many n m p Count (IsCountWithin m) (count_within n m p) 0 b.counts each.counts;
+      walk = one n m p Walk (IsWalkWithin n m) (walk_within n m p 0) b.walk each.walk;
+      duals = many n m p Dual (IsDualWithin p) (dual_within n m p) 0 b.duals each.duals;
+      sets = sets;
+      outer = one n m p Outer (λ d. All (IsUpTo n) d.members) (λ d. all_up_to n d.members) b.outer each.outer;
+      barrier = one n m p Barrier (λ u. All (IsUpTo p) u.members) (λ u. all_up_to p u.members) b.barrier each.barrier;
+      odd = one n m p Odd (λ t. All (IsUpTo n) t.members) (λ t. all_up_to n t.members) b.odd each.odd;
+      split = one n m p Split (λ q. All (IsUpTo n) q.members) (λ q. all_up_to n q.members) b.split each.split;
+      paths = many n m p Even (IsPathWithin n m) (path_within n m p) 0 b.paths each.paths;
+    }
 
 module _ (kind : Kind) (i : Network) (d : Document) (within : AreWithin kind i d) where
   abbrev n : ℕ

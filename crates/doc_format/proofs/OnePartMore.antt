@@ -1,5 +1,5 @@
 -- A document with a part more keeps its form.
-use Rattle.graph_theory.proofs.Common.{◌≡◌, ◌++◌, ◌∷◌, [], List, true, refl, ap, subst, ◌∙◌, Result, Ok, Err, OnOk, OnErr, list_all, and_parts, and_from}
+use Rattle.graph_theory.proofs.Common.{◌≡◌, ◌++◌, ◌∷◌, [], List, true, refl, sym, ap, subst, ◌∙◌, Result, Ok, Err, OnOk, OnErr, list_all, and_parts, and_from}
 use Rattle.doc_format.specs.declared.part.Part.{Part}
 use Rattle.doc_format.specs.declared.head.Head.{Head}
 use Rattle.doc_format.specs.declared.document.Document.{Document}
@@ -45,3 +45,9 @@ pub pushed_kept : {A V E : Type 0} (d : Document) (put : List A → Body) (r : R
     OnErr r (new ≡ old) → IsDocument d.status d.kind d.weight (put old) → IsDocument d.status d.kind d.weight (put (old ++ x ∷ [])) → IsDocument d.status d.kind d.weight (put new)
 pushed_kept d put (Ok v) old x new ok err before more = rw ok more
 pushed_kept d put (Err e) old x new ok err before more = rw err before
+
+-- the form of a document made from another by a change of its parts
+pub formed-as : (d : Document) (h : Head) (b : Body) (change : Body → Body) → head_of d ≡ h → body_of d ≡ b → IsDocument h.status h.kind h.weight (change b) →
+    IsDocument d.status d.kind d.weight (change (body_of d))
+formed-as d h b change head body form =
+    subst (λ (g : Head). IsDocument g.status g.kind g.weight (change (body_of d))) (sym head) (subst (λ (c : Body). IsDocument h.status h.kind h.weight (change c)) (sym body) form)

@@ -12,7 +12,7 @@ use Rattle.doc_format.specs.declared.part.Part.{Part}
 use Rattle.doc_format.specs.declared.part.Part.TheVariants.{Count, Walk, Dual, Set, Outer, Barrier, Odd, Split, Even}
 use Rattle.doc_format.specs.declared.letter.Letter.{Letter}
 use Rattle.doc_format.specs.Parts.{letter_text, letter_named, rank, repeats, letter_of, key, numbers_of, fields_of, is_formed, ascends, on_line, Role, edge_number, use_count, vertex_number}
-use Rattle.doc_format.specs.Parts.{node_number, vertex_dual, set_dual, item_passes, each_number, Body, at_most_one, parts_of, blank, with_part}
+use Rattle.doc_format.specs.Parts.{node_number, vertex_dual, set_dual, item_passes, each_number, set_count, Body, at_most_one, parts_of, blank, with_part}
 use Rattle.doc_format.specs.declared.head.Head.{Head}
 use Rattle.doc_format.specs.declared.document.Document.{Document}
 use Rattle.doc_format.specs.Form.{AscendsBy, may_follow, in_order, IsDocument}
@@ -22,7 +22,7 @@ use Rattle.doc_format.specs.Spelling.{part_row}
 use Rattle.doc_format.proofs.NumbersBack.{kept_back, counted_back, numbers_are_fields}
 use Rattle.doc_format.proofs.ItemsBack.{led_items_back, led_items_are_fields, kept_items}
 use Rattle.doc_format.proofs.Fields.{HasFields}
-use Rattle.doc_format.proofs.Tests.{all_parts}
+use Rattle.doc_format.proofs.Tests.{all_parts, joined, each_list}
 use Rattle.doc_format.specs.declared.letter.Letter.TheVariants as letter
 
 -- the body as if each line were line 0
@@ -164,37 +164,64 @@ no_item : {A : Type 0} (p : Part → Bool) (f : A → Part) (o : Option A) → (
 no_item p f None none h = refl
 no_item p f (Some x) none h = let e = (and_parts (p (f x)) true h).0 in let n = none x in absurd cc
 
--- ---- a test of all parts, part by part
+-- ---- the parts, a list for each letter
 
-pub record AllParts (p : Part → Bool) (b : Body) : Type 0 where
-  pub counts : list_all p (map Count b.counts) ≡ true
-  pub walk : list_all p (at_most_one Walk b.walk) ≡ true
-  pub duals : list_all p (map Dual b.duals) ≡ true
-  pub sets : list_all p (map Set b.sets) ≡ true
-  pub outer : list_all p (at_most_one Outer b.outer) ≡ true
-  pub barrier : list_all p (at_most_one Barrier b.barrier) ≡ true
-  pub odd : list_all p (at_most_one Odd b.odd) ≡ true
-  pub split : list_all p (at_most_one Split b.split) ≡ true
-  pub paths : list_all p (map Even b.paths) ≡ true
+abbrev pub before_sets : Body → List (List Part)
+before_sets b = map Count b.counts ∷ at_most_one Walk b.walk ∷ map Dual b.duals ∷ []
+
+abbrev pub after_sets : Body → List (List Part)
+after_sets b =
+    at_most_one Outer b.outer ∷ at_most_one Barrier b.barrier ∷ at_most_one Odd b.odd ∷ at_most_one Split b.split ∷ map Even b.paths ∷ []
+
+abbrev pub by_letter : Body → List (List Part)
+by_letter b = before_sets b ++ map Set b.sets ∷ after_sets b
+
+pub joined_parts : (b : Body) → joined (by_letter b) ≡ parts_of b
+joined_parts b = rw (append-nil (map Even b.paths)) refl
+
+-- a fact about the list of each letter
+pub record ByLetter (P : List Part → Type 0) (b : Body) : Type 0 where
+  pub counts : P (map Count b.counts)
+  pub walk : P (at_most_one Walk b.walk)
+  pub duals : P (map Dual b.duals)
+  pub sets : P (map Set b.sets)
+  pub outer : P (at_most_one Outer b.outer)
+  pub barrier : P (at_most_one Barrier b.barrier)
+  pub odd : P (at_most_one Odd b.odd)
+  pub split : P (at_most_one Split b.split)
+  pub paths : P (map Even b.paths)
+
+pub letter_by_letter : (P : List Part → Type 0) (b : Body) → AllByRecursion P (by_letter b) → ByLetter P b
+letter_by_letter P b (counts, (walk, (duals, (sets, (outer, (barrier, (odd, (split, (paths, none))))))))) =
+    record { counts = counts; walk = walk; duals = duals; sets = sets; outer = outer; barrier = barrier; odd = odd; split = split; paths = paths }
+
+-- a test of all parts
+abbrev pub AllParts : (Part → Bool) → Body → Type 0
+AllParts p b = ByLetter (λ parts. list_all p parts ≡ true) b
 
 pub part_by_part : (p : Part → Bool) (b : Body) → list_all p (parts_of b) ≡ true → AllParts p b
-part_by_part p b h =
-    let split = at_most_one Split b.split ++ map Even b.paths in
-    let odd = at_most_one Odd b.odd ++ split in
-    let barrier = at_most_one Barrier b.barrier ++ odd in
-    let outer = at_most_one Outer b.outer ++ barrier in
-    let sets = map Set b.sets ++ outer in
-    let duals = map Dual b.duals ++ sets in
-    let walk = at_most_one Walk b.walk ++ duals in
-    let h1 = all_parts p (map Count b.counts) walk h in
-    let h2 = all_parts p (at_most_one Walk b.walk) duals h1.1 in
-    let h3 = all_parts p (map Dual b.duals) sets h2.1 in
-    let h4 = all_parts p (map Set b.sets) outer h3.1 in
-    let h5 = all_parts p (at_most_one Outer b.outer) barrier h4.1 in
-    let h6 = all_parts p (at_most_one Barrier b.barrier) odd h5.1 in
-    let h7 = all_parts p (at_most_one Odd b.odd) split h6.1 in
-    let h8 = all_parts p (at_most_one Split b.split) (map Even b.paths) h7.1 in
-    record { counts = h1.0; walk = h2.0; duals = h3.0; sets = h4.0; outer = h5.0; barrier = h6.0; odd = h7.0; split = h8.0; paths = h8.1 }
+part_by_part p b h = letter_by_letter (λ parts. list_all p parts ≡ true) b (each_list p (by_letter b) (ap (list_all p) (joined_parts b) ∙ h))
+
+-- no part is a z line
+abbrev pub HasNoSets : List Part → Type 0
+HasNoSets parts = AllByRecursion (λ part. set_count part ≡ 0) parts
+
+no_sets : {A : Type 0} (made : A → Part) (none : (x : A) → set_count (made x) ≡ 0) (xs : List A) → HasNoSets (map made xs)
+no_sets made none [] = tt
+no_sets made none (x ∷ xs) = (none x, no_sets made none xs)
+
+no_set : {A : Type 0} (made : A → Part) (none : (x : A) → set_count (made x) ≡ 0) (o : Option A) → HasNoSets (at_most_one made o)
+no_set made none None = tt
+no_set made none (Some x) = (none x, tt)
+
+pub none_before : (b : Body) → AllByRecursion HasNoSets (before_sets b)
+none_before b = (no_sets Count (λ x. refl) b.counts, (no_set Walk (λ w. refl) b.walk, (no_sets Dual (λ y. refl) b.duals, tt)))
+
+pub none_after : (b : Body) → AllByRecursion HasNoSets (after_sets b)
+none_after b = (
+  no_set Outer (λ d. refl) b.outer,
+  (no_set Barrier (λ u. refl) b.barrier, (no_set Odd (λ t. refl) b.odd, (no_set Split (λ q. refl) b.split, (no_sets Even (λ r. refl) b.paths, tt)))),
+)
 
 -- ---- the body with one part more
 
@@ -328,21 +355,22 @@ keys_ascend made by (x ∷ y ∷ xs) same h =
     let first = and_parts (may_follow (made x) (made y)) (list_all (may_follow (made x)) (map made xs)) parts.0 in
     and_from (int_lt (by x) (by y)) (ascends (map by (y ∷ xs))) (sym (same x y) ∙ first.0) (keys_ascend made by (y ∷ xs) same parts.1)
 
+-- parts in order are so letter by letter
+each_in_order : (xss : List (List Part)) → in_order (joined xss) ≡ true → AllByRecursion (λ xs. in_order xs ≡ true) xss
+each_in_order [] h = tt
+each_in_order (xs ∷ xss) h = (order_front xs (joined xss) h, each_in_order xss (order_back xs (joined xss) h))
+
+order_by_letter : (b : Body) → in_order (parts_of b) ≡ true → ByLetter (λ parts. in_order parts ≡ true) b
+order_by_letter b h = letter_by_letter (λ parts. in_order parts ≡ true) b (each_in_order (by_letter b) (ap in_order (joined_parts b) ∙ h))
+
 pub edges_ascend : (b : Body) → in_order (parts_of b) ≡ true → AscendsBy (λ x. x.edge) b.counts
-edges_ascend b h = keys_ascend Count (λ (x : CountLine). x.edge) b.counts (λ x y. refl) (order_front (map Count b.counts) _ h)
+edges_ascend b h = keys_ascend Count (λ (x : CountLine). x.edge) b.counts (λ x y. refl) (order_by_letter b h).counts
 
 pub vertices_ascend : (b : Body) → in_order (parts_of b) ≡ true → AscendsBy (λ y. y.vertex) b.duals
-vertices_ascend b h =
-    let behind = order_back (at_most_one Walk b.walk) _ (order_back (map Count b.counts) _ h) in
-    keys_ascend Dual (λ (y : DualLine). y.vertex) b.duals (λ x y. refl) (order_front (map Dual b.duals) _ behind)
+vertices_ascend b h = keys_ascend Dual (λ (y : DualLine). y.vertex) b.duals (λ x y. refl) (order_by_letter b h).duals
 
 pub paths_ascend : (b : Body) → in_order (parts_of b) ≡ true → AscendsBy (λ r. r.vertex) b.paths
-paths_ascend b h =
-    let behind = order_back (at_most_one Walk b.walk) _ (order_back (map Count b.counts) _ h) in
-    let sets = order_back (map Set b.sets) _ (order_back (map Dual b.duals) _ behind) in
-    let odd = order_back (at_most_one Barrier b.barrier) _ (order_back (at_most_one Outer b.outer) _ sets) in
-    let last = order_back (at_most_one Split b.split) _ (order_back (at_most_one Odd b.odd) _ odd) in
-    keys_ascend Even (λ (r : PathLine). r.vertex) b.paths (λ x y. refl) last
+paths_ascend b h = keys_ascend Even (λ (r : PathLine). r.vertex) b.paths (λ x y. refl) (order_by_letter b h).paths
 
 -- a test of the one part that there is of a letter
 pub the_one : {A : Type 0} (p : Part → Bool) (made : A → Part) (o : Option A) (x : A) → list_all p (at_most_one made o) ≡ true → o ≡ Some x → p (made x) ≡ true

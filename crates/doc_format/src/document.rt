@@ -124,6 +124,38 @@ impl Document {
         }
     }
 
+    /// The line of outer vertices.
+    fn put_outer(&self, out: &mut Vec<u8>) -> Result<(), OutOfMemory>
+        ensures { OnOk result (out.new.items ≡ out.old.items
+            ++ parts_text (at_most_one Part.Outer self.now.outer)) }
+    {
+        put_vertices(out, b'd', &self.outer)
+    }
+
+    /// The line of a barrier.
+    fn put_barrier(&self, out: &mut Vec<u8>) -> Result<(), OutOfMemory>
+        ensures { OnOk result (out.new.items ≡ out.old.items
+            ++ parts_text (at_most_one Part.Barrier self.now.barrier)) }
+    {
+        put_vertices(out, b'u', &self.barrier)
+    }
+
+    /// The line of an odd part.
+    fn put_odd(&self, out: &mut Vec<u8>) -> Result<(), OutOfMemory>
+        ensures { OnOk result (out.new.items ≡ out.old.items
+            ++ parts_text (at_most_one Part.Odd self.now.odd)) }
+    {
+        put_vertices(out, b't', &self.odd)
+    }
+
+    /// The line of a split part.
+    fn put_split(&self, out: &mut Vec<u8>) -> Result<(), OutOfMemory>
+        ensures { OnOk result (out.new.items ≡ out.old.items
+            ++ parts_text (at_most_one Part.Split self.now.split)) }
+    {
+        put_vertices(out, b'q', &self.split)
+    }
+
     /// The line of a walk, and those of the sets that are asked for beside an answer.
     pub(crate) fn put_asked(&self, out: &mut Vec<u8>) -> Result<(), OutOfMemory>
         ensures { OnOk result (out.new.items ≡ out.old.items
@@ -134,8 +166,8 @@ impl Document {
             BestProof::Duals(_) => Ok(()),
             BestProof::LighterBarrier => Ok(()),
             BestProof::OuterPaths => {
-                put_vertices(out, b'd', &self.outer)?;
-                put_vertices(out, b'u', &self.barrier)
+                self.put_outer(out)?;
+                self.put_barrier(out)
             }
         }
     }
@@ -147,10 +179,10 @@ impl Document {
     {
         put_duals(out, self.duals.as_slice())?;
         put_sets(out, self.sets.as_slice())?;
-        put_vertices(out, b'd', &self.outer)?;
-        put_vertices(out, b'u', &self.barrier)?;
-        put_vertices(out, b't', &self.odd)?;
-        put_vertices(out, b'q', &self.split)?;
+        self.put_outer(out)?;
+        self.put_barrier(out)?;
+        self.put_odd(out)?;
+        self.put_split(out)?;
         put_paths(out, self.paths.as_slice())
     }
 }

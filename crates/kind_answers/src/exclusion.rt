@@ -5,9 +5,9 @@ ghost use Rattle.doc_format.specs.Parts.{ascends};
 ghost use Rattle.doc_format.specs.Form.{is_never};
 ghost use Rattle.kind_answers.specs.Excluding.{set_body, StatesLine, StatesSet};
 
-use doc_format::{DocStatus, Document, MemberLine};
+use doc_format::{DocStatus, Document, Head, MemberLine};
 use document_lines::member_line;
-use mb_base::{OutOfMemory, Sequence, VertexId};
+use mb_base::{OutOfMemory, VertexId};
 use mb_problem::{Exclusion, Kind};
 use std::alloc::Global;
 
@@ -40,21 +40,17 @@ pub fn infeasible_by(alloc: Global, kind: Kind, line: MemberLine) -> Result<Docu
     ensures { IfOk result (StatesLine kind line) }
 {
     let (barrier, odd, split) = placed(kind.exclusion(), line);
-    Ok(Document {
+    let head = Head {
+        line: 1,
         status: DocStatus::Infeasible,
         kind,
         weight: 0,
-        line: 1,
-        counts: Sequence::new(alloc),
-        walk: None,
-        duals: Sequence::new(alloc),
-        sets: Sequence::new(alloc),
-        outer: None,
-        barrier,
-        odd,
-        split,
-        paths: Sequence::new(alloc),
-    })
+    };
+    let mut document = Document::new(alloc, head);
+    document.barrier = barrier;
+    document.odd = odd;
+    document.split = split;
+    Ok(document)
 }
 
 /// The document of a set of vertices, ascending, that excludes all answers of a kind.

@@ -15,7 +15,7 @@ ghost use Rattle.kind_answers.specs.Settled.{SettlesBare};
 ghost use Rattle.kind_solver.specs.Lightest.{line_beside, StatesLightest};
 
 use bottleneck::{Bottleneck, threshold};
-use doc_format::{DocStatus, Document, MemberLine};
+use doc_format::{DocStatus, Document, Head, MemberLine};
 use document_lines::{count_lines, member_line};
 use gadget_base::extract_plain;
 use kind_answers::infeasible_by;
@@ -59,21 +59,16 @@ fn best(
     drop(answer);
     let counts = Sequence::from_vec(lines?);
     let line = barrier_line(alloc, instance, barrier)?;
-    Ok(Document {
+    let head = Head {
+        line: 1,
         status: DocStatus::Optimal,
         kind,
         weight,
-        line: 1,
-        counts,
-        walk: None,
-        duals: Sequence::new(alloc),
-        sets: Sequence::new(alloc),
-        outer: None,
-        barrier: line,
-        odd: None,
-        split: None,
-        paths: Sequence::new(alloc),
-    })
+    };
+    let mut document = Document::new(alloc, head);
+    document.counts = counts;
+    document.barrier = line;
+    Ok(document)
 }
 
 /// The document of a barrier of the graph.

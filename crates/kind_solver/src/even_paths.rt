@@ -16,7 +16,7 @@ ghost use Rattle.gallai.specs.Decompositions.{IsDecomposition};
 ghost use Rattle.kind_answers.specs.Settled.{SettlesBare};
 ghost use Rattle.kind_solver.specs.Greatest.{path_line, StatesGreatest};
 
-use doc_format::{CountLine, DocStatus, Document, PathLine};
+use doc_format::{CountLine, DocStatus, Document, Head, PathLine};
 use document_lines::{count_lines, member_line};
 use gadget_base::count_listed;
 use gallai::{Decomposition, decompose};
@@ -96,21 +96,18 @@ fn stated(
     let outer = member_line(alloc, found.d.as_slice())?;
     let border = member_line(alloc, found.a.as_slice())?;
     let paths = path_lines(alloc, found)?;
-    Ok(Document {
+    let head = Head {
+        line: 1,
         status: DocStatus::Optimal,
         kind,
         weight: found.matching.len() as i64,
-        line: 1,
-        counts,
-        walk: None,
-        duals: Sequence::new(alloc),
-        sets: Sequence::new(alloc),
-        outer: Some(outer),
-        barrier: Some(border),
-        odd: None,
-        split: None,
-        paths,
-    })
+    };
+    let mut document = Document::new(alloc, head);
+    document.counts = counts;
+    document.outer = Some(outer);
+    document.barrier = Some(border);
+    document.paths = paths;
+    Ok(document)
 }
 
 /// The document of a greatest matching, with the vertices that some such one misses (Gallai,

@@ -1,8 +1,8 @@
 -- The forms of documents of best answers.
 use Rattle.certificates.proofs.Common.{◌||◌, ◌≡◌, ℕ, ◌≤◌, ℤ, pos, Bool, true, false, List, [], ◌∷◌, ◌++◌, length, map, Option, None, Some, refl, sym, ap, subst}
 use Rattle.certificates.proofs.Common.{◌∙◌, arith, list_all, list_all-append, and_from, Kind, AnswerForm, Answer, Counts, Walk, Nothing, form_of, proof_of, are_duals, Network}
-use Rattle.certificates.proofs.Common.{IsFeasible, feasible-form, Optimal, CountLine, WalkLine, DualLine, SetLine, Part, BestProof, Duals, LighterBarrier, OuterPaths, Document, Head, Body}
-use Rattle.certificates.proofs.Common.{blank, proves_best, is_counts, is_walk, is_formed, has_any, at_most_one, admits, in_order, AscendsBy, IsDocument, body_of, head_of, IsTail, before}
+use Rattle.certificates.proofs.Common.{IsFeasible, feasible-form, Optimal, CountLine, WalkLine, DualLine, SetLine, Part, BestProof, Duals, LighterBarrier, OuterPaths, Document, Body}
+use Rattle.certificates.proofs.Common.{blank, proves_best, is_counts, is_walk, is_formed, has_any, at_most_one, admits, in_order, AscendsBy, IsDocument, body_of, IsTail, before}
 use Rattle.certificates.proofs.Common.{many_ranked, one_ranked, keyed, sets_in_order, one_in_order, IsInForm}
 use Rattle.mwpm_engine.specs.Solutions.{Solution}
 use Rattle.document_lines.specs.Lines.{ListsAnswer, line_of}
@@ -117,9 +117,3 @@ form-completed kind i s d duals sets best p vertices formed =
     let a = p.states in
     let form = form-optimal kind d.weight a.answer d.counts d.walk duals sets best (feasible-form kind i a.answer a.feasible) a.lists a.walk a.ascending vertices formed in
     subst (λ (b : Body). IsDocument d.status d.kind d.weight (record b { duals = duals; sets = sets })) (sym p.only) (rw (a.status, a.kind_is) form)
-
--- the form of a document made from another by a change of its parts
-pub formed-as : (d : Document) (h : Head) (b : Body) (change : Body → Body) → head_of d ≡ h → body_of d ≡ b → IsDocument h.status h.kind h.weight (change b) →
-    IsDocument d.status d.kind d.weight (change (body_of d))
-formed-as d h b change head body form =
-    subst (λ (g : Head). IsDocument g.status g.kind g.weight (change (body_of d))) (sym head) (subst (λ (c : Body). IsDocument h.status h.kind h.weight (change c)) (sym body) form)

@@ -13,11 +13,11 @@ ghost use Rattle.mwpm_engine.specs.Solutions.{most_steps};
 ghost use Rattle.kind_answers.specs.Settled.{SettlesOrIsFit};
 
 use conservative_paths::{laws, negative_circuit};
-use doc_format::{DocStatus, Document};
+use doc_format::{DocStatus, Document, Head};
 use document_lines::walk_line;
 use kind_answers::as_counts;
 use least_joins::least_join;
-use mb_base::{OutOfMemory, Sequence, Steps};
+use mb_base::{OutOfMemory, Steps};
 use mb_problem::{Instance, Join, Kind, Parity, weight};
 use std::alloc::Global;
 use std::sync::ledger::Ledger;
@@ -56,21 +56,15 @@ fn judged(
     let walk = walk_line(alloc, &circuit);
     drop(circuit);
     let walk = walk?;
-    Ok(Some(Document {
+    let head = Head {
+        line: 1,
         status: DocStatus::NonConservative,
         kind,
         weight: 0,
-        line: 1,
-        counts: Sequence::new(alloc),
-        walk,
-        duals: Sequence::new(alloc),
-        sets: Sequence::new(alloc),
-        outer: None,
-        barrier: None,
-        odd: None,
-        split: None,
-        paths: Sequence::new(alloc),
-    }))
+    };
+    let mut document = Document::new(alloc, head);
+    document.walk = walk;
+    Ok(Some(document))
 }
 
 /// Whether no edge weighs less than 0.

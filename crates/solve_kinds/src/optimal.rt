@@ -15,7 +15,7 @@ ghost use Rattle.solve_kinds.specs.Presented.{PaysFor};
 ghost use Rattle.kind_answers.specs.Stands.{HasFewSteps};
 ghost use Rattle.solve_kinds.specs.Presented.{Presents, PresentsBriefly, PresentsFor};
 
-use doc_format::{DocStatus, Document};
+use doc_format::{DocStatus, Document, Head};
 use document_lines::{count_lines, walk_line};
 use kind_answers::answer;
 use least_joins::matching;
@@ -54,21 +54,16 @@ fn stated(
     let weight = stated_weight(instance, kind, answer);
     let counts = Sequence::from_vec(count_lines(alloc, instance, answer)?);
     let walk = walk_line(alloc, answer)?;
-    Ok(Document {
+    let head = Head {
+        line: 1,
         status: DocStatus::Optimal,
         kind,
         weight,
-        line: 1,
-        counts,
-        walk,
-        duals: Sequence::new(alloc),
-        sets: Sequence::new(alloc),
-        outer: None,
-        barrier: None,
-        odd: None,
-        split: None,
-        paths: Sequence::new(alloc),
-    })
+    };
+    let mut document = Document::new(alloc, head);
+    document.counts = counts;
+    document.walk = walk;
+    Ok(document)
 }
 
 /// The document of the answer that the engine's perfect matching stands for, and of nothing else.

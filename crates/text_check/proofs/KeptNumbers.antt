@@ -1,11 +1,10 @@
 -- The numbers of a document that proves its answer, and the counts of its members and items, lie within what a reader keeps.
-use Rattle.certificates.proofs.Common.{◌≡◌, ℕ, ◌+◌, ◌<◌, ◌≤◌, ℤ, pos, neg_ℤ, ◌≤ℤ◌, true, false, List, [], ◌∷◌, ◌++◌, length, refl, arith, All}
+use Rattle.certificates.proofs.Common.{◌≡◌, ℕ, ◌+◌, ◌<◌, ◌≤◌, ℤ, pos, neg_ℤ, ◌≤ℤ◌, true, false, List, [], ◌∷◌, ◌++◌, length, arith, All}
 use Rattle.certificates.proofs.Common.{int_le, signed_decimal, AllByRecursion, and_parts, ints, length-append, length-map, All-from_recursion, IsNumber, Row, Kind, Network, vertices}
-use Rattle.certificates.proofs.Common.{gadget_graph, Part, Count, Dual, Set, Outer, Odd, Split, Even, Document, item_text, item_number, numbers_of, fields_of, set_count, parts_of, Role}
+use Rattle.certificates.proofs.Common.{gadget_graph, Part, Set, Document, item_text, item_number, numbers_of, fields_of, set_count, parts_of, Role}
 use Rattle.certificates.proofs.Common.{edge_number, use_count, vertex_number, node_number, vertex_dual, set_dual, set_number, body_of, after_space, row_text, letter, part_row, head_row}
 use Rattle.certificates.proofs.Common.{parts_text, document_text, IsKept, HasKeptNumbers, kept_where, is_up_to, is_dual, is_within, in_range, all_in_range, int_le-true as bound, AreWithin}
 use Rattle.std.proofs.Common.{flat_map}
-use Rattle.doc_format.specs.declared.part.Part.TheVariants.{Walk, Barrier}
 
 abbrev most : ℕ
 most = 1000000000000000000
@@ -28,15 +27,8 @@ kept_up_to n z few h =
 -- ---- a text has more bytes than fields on a line, and than lines
 
 same_count : (part : Part) → length (fields_of part) ≡ length (numbers_of part)
-same_count (Count x) = refl
-same_count (Walk w) = length-map (numbers_of (Walk w)) signed_decimal
-same_count (Dual y) = refl
 same_count (Set z) = let texts = length-map z.items item_text in let numbers = length-map z.items item_number in omega arith
-same_count (Outer d) = length-map (numbers_of (Outer d)) signed_decimal
-same_count (Barrier u) = length-map (numbers_of (Barrier u)) signed_decimal
-same_count (Odd t) = length-map (numbers_of (Odd t)) signed_decimal
-same_count (Split q) = length-map (numbers_of (Split q)) signed_decimal
-same_count (Even r) = length-map (numbers_of (Even r)) signed_decimal
+same_count other = length-map (numbers_of other) signed_decimal
 
 fields_size : (fields : Row) → length fields ≤ length (flat_map after_space fields)
 fields_size [] = omega arith
@@ -73,15 +65,8 @@ parts_count (part ∷ parts) =
     omega arith
 
 one_set : (part : Part) → set_count part ≤ 1
-one_set (Count x) = omega arith
-one_set (Walk w) = omega arith
-one_set (Dual y) = omega arith
 one_set (Set z) = omega arith
-one_set (Outer d) = omega arith
-one_set (Barrier u) = omega arith
-one_set (Odd t) = omega arith
-one_set (Split q) = omega arith
-one_set (Even r) = omega arith
+one_set other = omega arith
 
 -- ---- numbers in range are kept
 

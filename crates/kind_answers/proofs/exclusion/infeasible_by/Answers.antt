@@ -1,5 +1,6 @@
-use Rattle.certificates.proofs.Common.{◌≡◌, pos, true, false, refl, sym, ap, ◌∙◌, subst, true≢false, and_from, Kind, Exclusion, Barrier, OddPart, SplitPart, Never}
-use Rattle.certificates.proofs.Common.{exclusion_of, MemberLine, blank, ascends, is_never, IsDocument, Infeasible}
+use Rattle.certificates.proofs.Common.{◌≡◌, pos, true, false, not, refl, sym, ap, ◌∙◌, subst, true≢false, and_from, Kind, Exclusion, Barrier, OddPart, SplitPart, Never}
+use Rattle.certificates.proofs.Common.{exclusion_of, Head, Body, MemberLine, blank, ascends, is_never, IsDocument, Infeasible}
+use Rattle.doc_format.proofs.OnePartMore.{formed-as}
 use Rattle.kind_answers.specs.Excluding.{set_body}
 use Rattle.kind_answers.proofs.exclusion.infeasible_by.Goals as goal
 
@@ -17,24 +18,36 @@ form OddPart kind u is some order = record { headed = rw is refl; no_weight = λ
 form SplitPart kind u is some order = record { headed = rw is refl; no_weight = λ h. refl; letters = rw is refl; ordered = refl; formed = and_from (ascends u.members) true order refl }
 form Never kind u is some order = absurd (true≢false some)
 
-pub invariant_of-result : goal.invariant_of-result
-invariant_of-result c =
+pub new-document-requires : goal.new-document-requires
+new-document-requires c = record { table = record { status = ap not c.requires.kind; no_weight = λ h. refl } }
+
+pub invariant_of-document : goal.invariant_of-document
+invariant_of-document c =
     let kind = c.args.kind in
     let u = c.args.line in
     let e = c.exclusion.result in
     let is = sym c.exclusion.ensures in
     let some = subst (λ (x : Exclusion). is_never x ≡ false) is c.requires.kind in
+    let lines = c.placed-barrier.result in
     let p = c.placed-barrier.ensures in
-    record { form = rw (c.new.ensures, c.new-2.ensures, c.new-3.ensures, c.new-4.ensures, p.barrier, p.odd, p.split, placed e u) (form e kind u is some c.requires.ascending) }
+    let made : IsDocument Infeasible kind (pos 0) (record blank { barrier = lines.0; odd = lines.1; split = lines.2 }) =
+    rw (p.barrier, p.odd, p.split, placed e u) (form e kind u is some c.requires.ascending) in
+    record {
+      form = formed-as c.new-document.result _ blank (λ (b : Body). record b { barrier = lines.0; odd = lines.1; split = lines.2 })
+          c.new-document.ensures.head c.new-document.ensures.body made;
+    }
 
 pub returns : goal.returns
 returns c =
     let u = c.args.line in
+    let lines = c.placed-barrier.result in
     let p = c.placed-barrier.ensures in
+    let head = c.new-document.ensures.head in
+    let body : record blank { barrier = lines.0; odd = lines.1; split = lines.2 } ≡ set_body (exclusion_of c.args.kind) u =
+    rw (p.barrier, p.odd, p.split) (placed c.exclusion.result u ∙ ap (λ (e : Exclusion). set_body e u) c.exclusion.ensures) in
     record {
-      status = refl;
-      kind_is = refl;
-      weight = refl;
-      body = rw (c.new.ensures, c.new-2.ensures, c.new-3.ensures, c.new-4.ensures, p.barrier, p.odd, p.split)
-          (placed c.exclusion.result u ∙ ap (λ (e : Exclusion). set_body e u) c.exclusion.ensures);
+      status = ap (λ (h : Head). h.status) head;
+      kind_is = ap (λ (h : Head). h.kind) head;
+      weight = ap (λ (h : Head). h.weight) head;
+      body = ap (λ (b : Body). record b { barrier = lines.0; odd = lines.1; split = lines.2 }) c.new-document.ensures.body ∙ body;
     }

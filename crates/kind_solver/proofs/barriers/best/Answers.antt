@@ -1,6 +1,7 @@
-use Rattle.certificates.proofs.Common.{◌≡◌, ◌≤◌, true, List, length, All, Option, IfSome, refl, sym, ap, ◌∙◌, subst, rules, to_z, of_z, w64, IsNumber, Perfect, Answer}
-use Rattle.certificates.proofs.Common.{IsFeasible, graph_of, plain_graph, vertices, network-graph, feasible-places, with_loops, times_each, CountLine, MemberLine, blank, ascends}
+use Rattle.certificates.proofs.Common.{◌≡◌, ◌≤◌, true, List, length, All, Option, IfSome, sym, ap, ◌∙◌, subst, rules, to_z, of_z, w64, IsNumber, Perfect, Answer}
+use Rattle.certificates.proofs.Common.{IsFeasible, graph_of, plain_graph, vertices, network-graph, feasible-places, with_loops, times_each, CountLine, MemberLine, Head, Body, blank, ascends}
 use Rattle.certificates.proofs.Common.{AscendsBy, IsCountWithin, only-bottleneck}
+use Rattle.doc_format.proofs.OnePartMore.{formed-as}
 use Rattle.document_lines.specs.Lines.{ListsAnswer}
 use Rattle.document_lines.proofs.Ascents.{ascends-pos}
 use Rattle.kind_answers.proofs.EachKind.{small}
@@ -18,13 +19,13 @@ count_lines-lines-requires-clause-small c = small Perfect c.args.instance.now c.
 pub barrier_line-requires : goal.barrier_line-requires
 barrier_line-requires c some = (c.requires.found.2 some).vertex_set
 
-pub invariant_of-result : goal.invariant_of-result
-invariant_of-result c =
+pub invariant_of-document : goal.invariant_of-document
+invariant_of-document c =
     let n = vertices c.args.instance.now in
     let counts : List CountLine = c.from_vec-counts.result in
     let line = c.in_ok-line.line in
     record {
-      form = rw (c.new.ensures, c.new-2.ensures, c.new-3.ensures)
+      form = formed-as c.new-document.result _ blank (λ (b : Body). record b { counts = counts; barrier = line }) c.new-document.ensures.head c.new-document.ensures.body
           (form-lightest c.args.kind _ counts line c.requires.proof
           (subst (λ (xs : List CountLine). AscendsBy (λ x. x.edge) xs) (sym c.from_vec-counts.ensures) c.in_ok-lines.ensures.ascending)
           (subst (λ (o : Option MemberLine). IfSome o (λ u. ascends u.members ≡ true)) (sym c.in_ok-line.ensures)
@@ -37,10 +38,12 @@ returns c =
     let answer = c.in_ok-answer.answer in
     let counts = with_loops i (times_each (plain_graph i) c.args.matching.now) in
     let weighs = weighs-found i c.args.weight c.args.matching.now c.args.barrier.now c.requires.network c.requires.found in
-    let same : to_z w64 (of_z w64 c.args.weight) ≡ c.args.weight = search rules in
+    let head = c.new-document.ensures.head in
+    let kept : to_z w64 (of_z w64 c.args.weight) ≡ c.args.weight = search rules in
+    let same : c.new-document.result.weight ≡ c.args.weight = ap (λ (h : Head). h.weight) head ∙ kept in
     record {
-      status = refl;
-      kind_is = sym (only-bottleneck c.args.kind c.requires.proof);
+      status = ap (λ (h : Head). h.status) head;
+      kind_is = ap (λ (h : Head). h.kind) head ∙ sym (only-bottleneck c.args.kind c.requires.proof);
       counts = counts;
       perfect = subst (IsFeasible Perfect i) c.in_ok-answer.ensures.counted c.in_ok-answer.ensures.feasible;
       lists = subst (λ (a : Answer). ListsAnswer a c.from_vec-counts.result) c.in_ok-answer.ensures.counted
@@ -50,6 +53,6 @@ returns c =
       number = subst IsNumber (weighs ∙ sym same) (heaviest-number (graph_of i) counts (network-graph i c.requires.network));
       counts_within = subst (λ (xs : List CountLine). All (IsCountWithin (length i.edges)) xs) (sym c.from_vec-counts.ensures) c.in_ok-lines.ensures.in_range;
       few_counts = subst (λ (xs : List CountLine). length xs ≤ length i.edges) (sym c.from_vec-counts.ensures) c.in_ok-lines.ensures.few;
-      only = rw (c.new.ensures, c.new-2.ensures, c.new-3.ensures) refl
+      only = ap (λ (b : Body). record b { counts = c.from_vec-counts.result; barrier = c.in_ok-line.line }) c.new-document.ensures.body
           ∙ ap (λ (o : Option MemberLine). record blank { counts = c.from_vec-counts.result; barrier = o }) c.in_ok-line.ensures;
     }

@@ -1,5 +1,6 @@
-use Rattle.certificates.proofs.Common.{◌≡◌, ◌≤◌, pos, ◌≤ℤ◌, neg_ℤ, List, length, All, refl, sym, ◌∙◌, subst, arith, to_z, of_z, w64, ints}
-use Rattle.certificates.proofs.Common.{IsNumber, weight_of, feasible-places, CountLine, AscendsBy, IsCountWithin}
+use Rattle.certificates.proofs.Common.{◌≡◌, ◌≤◌, pos, ◌≤ℤ◌, neg_ℤ, List, length, All, sym, ap, ◌∙◌, subst, arith, to_z, of_z, w64, ints}
+use Rattle.certificates.proofs.Common.{IsNumber, weight_of, feasible-places, CountLine, Head, Body, blank, AscendsBy, IsCountWithin}
+use Rattle.doc_format.proofs.OnePartMore.{formed-as}
 use Rattle.document_lines.specs.Lines.{ListsAnswer}
 use Rattle.solve_kinds.proofs.Forms.{form-answered}
 use Rattle.kind_answers.proofs.EachKind.{small}
@@ -14,9 +15,10 @@ count_lines-requires-clause-places c = feasible-places c.args.kind c.args.instan
 pub count_lines-requires-clause-small : goal.count_lines-requires-clause-small
 count_lines-requires-clause-small c = small c.args.kind c.args.instance.now c.args.answer.now c.requires.network c.requires.feasible
 
-pub invariant_of-result : goal.invariant_of-result
-invariant_of-result c = record {
-  form = rw (c.new.ensures, c.new-2.ensures, c.new-3.ensures)
+pub invariant_of-document : goal.invariant_of-document
+invariant_of-document c = record {
+  form = formed-as c.new-document.result _ blank (λ (b : Body). record b { counts = c.from_vec-counts.result; walk = c.in_ok-walk.walk })
+      c.new-document.ensures.head c.new-document.ensures.body
       (form-answered c.args.kind c.args.instance.now _ c.args.answer.now c.from_vec-counts.result c.in_ok-walk.walk c.requires.duals c.requires.feasible
       (subst (ListsAnswer c.args.answer.now) (sym c.from_vec-counts.ensures) c.in_ok-count_lines.ensures.counts)
       c.in_ok-walk.ensures
@@ -34,11 +36,12 @@ returns c s pays =
     let low : neg_ℤ (pos 1000000000000000000) ≤ℤ w = fits.0 in
     let high : w ≤ℤ pos 1000000000000000000 = fits.1 in
     let kept : to_z w64 (of_z w64 w) ≡ w = omega (arith, ints) in
-    let stated : to_z w64 (of_z w64 w) ≡ weight_of kind i answer = kept ∙ is in
+    let head = c.new-document.ensures.head in
+    let stated : c.new-document.result.weight ≡ weight_of kind i answer = ap (λ (h : Head). h.weight) head ∙ kept ∙ is in
     record {
       states = record {
-        status = refl;
-        kind_is = refl;
+        status = ap (λ (h : Head). h.status) head;
+        kind_is = ap (λ (h : Head). h.kind) head;
         answer = answer;
         feasible = c.requires.feasible;
         few_steps = c.requires.few_steps;
@@ -52,5 +55,5 @@ returns c s pays =
         counts_within = subst (λ (xs : List CountLine). All (IsCountWithin (length i.edges)) xs) (sym c.from_vec-counts.ensures) c.in_ok-count_lines.ensures.in_range;
         few_counts = subst (λ (xs : List CountLine). length xs ≤ length i.edges) (sym c.from_vec-counts.ensures) c.in_ok-count_lines.ensures.few;
       };
-      only = rw (c.new.ensures, c.new-2.ensures, c.new-3.ensures) refl;
+      only = ap (λ (b : Body). record b { counts = c.from_vec-counts.result; walk = c.in_ok-walk.walk }) c.new-document.ensures.body;
     }
