@@ -1,7 +1,7 @@
 -- The items of the sets of a document: no reference is below 0.
-use Rattle.certificates.proofs.Common.{◌≡◌, ℕ, ◌+◌, ◌<◌, true, Bool, List, [], ◌∷◌, ◌++◌, length, map, take, get_or, All, refl, ap, sym, subst, ◌∙◌}
-use Rattle.certificates.proofs.Common.{map-append, take_more, list_all, and_parts, and_from, list_all-append, All-nil, All-cons, All-head, All-tail, All-push, Document, Part, SetItem}
-use Rattle.certificates.proofs.Common.{SetLine, is_item, at_most_one, is_formed}
+use Rattle.certificates.proofs.Common.{◌≡◌, ℕ, ◌+◌, ◌<◌, true, List, [], ◌∷◌, ◌++◌, length, map, take, get_or, All, refl, ap, sym, subst, ◌∙◌}
+use Rattle.certificates.proofs.Common.{map-append, take_more, list_all, and_parts, and_from, All-nil, All-cons, All-head, All-tail, All-push, Document, SetItem, SetLine, is_item, is_formed, body_of}
+use Rattle.doc_format.proofs.PartLaws.{part_by_part}
 use Rattle.array_call.specs.Sheets.{HasItems}
 use Rattle.doc_format.specs.declared.part.Part.TheVariants as part
 
@@ -24,23 +24,8 @@ all-sets (z ∷ sets) h =
     let both = and_parts (list_all is_item z.items) (list_all is_formed (map part.Set sets)) h in
     All-cons HasItems z sets (all-items z.items both.0) (all-sets sets both.1)
 
-first-part : (p : Part → Bool) (xs ys : List Part) → list_all p (xs ++ ys) ≡ true → list_all p xs ≡ true
-first-part p xs ys h = (and_parts (list_all p xs) (list_all p ys) (sym (list_all-append p xs ys) ∙ h)).0
-
-others : (p : Part → Bool) (xs ys : List Part) → list_all p (xs ++ ys) ≡ true → list_all p ys ≡ true
-others p xs ys h = (and_parts (list_all p xs) (list_all p ys) (sym (list_all-append p xs ys) ∙ h)).1
-
 pub document-items : (d : Document) → All HasItems d.sets
-document-items d =
-    let last = at_most_one part.Outer d.outer
-    ++ (at_most_one part.Barrier d.barrier ++ (at_most_one part.Odd d.odd ++ (at_most_one part.Split d.split ++ map part.Even d.paths))) in
-    let sets = map part.Set d.sets ++ last in
-    let duals = map part.Dual d.duals ++ sets in
-    let walk = at_most_one part.Walk d.walk ++ duals in
-    let one = others is_formed (map part.Count d.counts) walk d.form.formed in
-    let two = others is_formed (at_most_one part.Walk d.walk) duals one in
-    let three = others is_formed (map part.Dual d.duals) sets two in
-    all-sets d.sets (first-part is_formed (map part.Set d.sets) last three)
+document-items d = all-sets d.sets (part_by_part is_formed (body_of d) d.form.formed).sets
 
 -- ---- one more, which is made of the number at a place
 

@@ -1,6 +1,6 @@
 use Rattle.certificates.proofs.Common.{List, length, map, All, Some, sym, ap, ◌∙◌, subst, CountLine, PathLine, Body, blank, ascends, AscendsBy}
 use Rattle.kind_solver.proofs.Forms.{form-greatest}
-use Rattle.solve_kinds.proofs.Forms.{formed-as as formed-by}
+use Rattle.doc_format.proofs.OnePartMore.{formed-as}
 use Rattle.array_call.specs.Sheets.{IsCountOn}
 use Rattle.array_call.proofs.building.greatest.Goals as goal
 
@@ -12,7 +12,7 @@ invariant_of-document c =
     let paths : List PathLine = c.from_vec-paths.result in
     let starts = ap (λ (rs : List PathLine). map (λ (r : PathLine). r.vertex) rs) c.from_vec-paths.ensures ∙ c.requires.paths in
     record {
-      form = formed-by c.new-document.result _ blank (λ (b : Body). record b { counts = counts; outer = Some outer; barrier = Some border; paths = paths })
+      form = formed-as c.new-document.result _ blank (λ (b : Body). record b { counts = counts; outer = Some outer; barrier = Some border; paths = paths })
           c.new-document.ensures.head c.new-document.ensures.body
           (form-greatest outer border paths c.args.kind _ counts c.requires.proof
           (subst (λ (xs : List CountLine). AscendsBy (λ x. x.edge) xs) (sym c.from_vec-counts.ensures) c.in_ok-count_lines.ensures.ascending)

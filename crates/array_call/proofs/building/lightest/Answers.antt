@@ -1,6 +1,6 @@
 use Rattle.certificates.proofs.Common.{◌≡◌, true, List, length, All, Option, Some, sym, subst, rules, CountLine, MemberLine, Body, blank, ascends, AscendsBy}
 use Rattle.kind_solver.proofs.Forms.{form-lightest}
-use Rattle.solve_kinds.proofs.Forms.{formed-as as formed-by}
+use Rattle.doc_format.proofs.OnePartMore.{formed-as}
 use Rattle.array_call.specs.Sheets.{IsCountOn}
 use Rattle.array_call.proofs.building.lightest.Goals as goal
 
@@ -10,7 +10,7 @@ invariant_of-document c =
     let barrier : Option MemberLine = Some c.in_ok-barrier.barrier in
     let ascending : ascends c.in_ok-barrier.barrier.members ≡ true = search rules in
     record {
-      form = formed-by c.new-document.result _ blank (λ (b : Body). record b { counts = counts; barrier = barrier }) c.new-document.ensures.head c.new-document.ensures.body
+      form = formed-as c.new-document.result _ blank (λ (b : Body). record b { counts = counts; barrier = barrier }) c.new-document.ensures.head c.new-document.ensures.body
           (form-lightest c.args.kind _ counts barrier c.requires.proof
           (subst (λ (xs : List CountLine). AscendsBy (λ x. x.edge) xs) (sym c.from_vec-counts.ensures) c.in_ok-count_lines.ensures.ascending) ascending);
     }

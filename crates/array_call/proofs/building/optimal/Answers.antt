@@ -1,5 +1,5 @@
 use Rattle.certificates.proofs.Common.{List, length, All, sym, subst, AnswerForm, form_of, CountLine, DualLine, SetLine, Body, blank, AscendsBy}
-use Rattle.solve_kinds.proofs.Forms.{formed-as as formed-by}
+use Rattle.doc_format.proofs.OnePartMore.{formed-as}
 use Rattle.array_call.specs.Sheets.{IsCountOn, IsAnswerOn, AreIn, HasItems}
 use Rattle.array_call.specs.Documents.{StatesNumbers}
 use Rattle.array_call.proofs.Sheets.{form-laid, counts-on, of-its-length, stated}
@@ -23,7 +23,7 @@ invariant_of-document c =
     subst (λ (f : AnswerForm). AreIn f n c.in_ok-answer.answer.counts.items walk) c.form.ensures c.in_ok-answer.ensures.form in
     let has : AreIn (form_of c.args.kind) n counts walk = subst (λ (xs : List CountLine). AreIn (form_of c.args.kind) n xs walk) (sym c.from_vec-counts.ensures) laid in
     record {
-      form = formed-by c.new-document.result _ blank (λ (b : Body). record b { counts = counts; walk = walk; duals = duals; sets = sets })
+      form = formed-as c.new-document.result _ blank (λ (b : Body). record b { counts = counts; walk = walk; duals = duals; sets = sets })
           c.new-document.ensures.head c.new-document.ensures.body
           (form-laid c.args.kind _ n counts walk duals sets c.requires.duals has
           (subst (λ (ys : List DualLine). AscendsBy (λ y. y.vertex) ys) (sym c.from_vec-duals.ensures) c.in_ok-dual_lines.ensures.ascending)
