@@ -18,8 +18,8 @@ pub record SolvesWithin (brief : Bool) (kind : Kind) (i : Network) (d : Document
   pub written : IsWrittenFor kind i brief d
   pub settled : SettlesFor brief kind i d
 
--- such a document, or the size of the certificate graph, which is past a limit; memory runs out only
--- within the limits
+-- such a document, or the size of the certificate graph, which is past a limit; memory runs out
+-- only within the limits
 abbrev pub SolvesSized : Bool → Kind → Network → Result Document SolveError → Type 0
 SolvesSized brief kind i (Ok d) = SolvesWithin brief kind i d
 SolvesSized brief kind i (Err (TooLarge vertices edges)) = ¬ IsWithinLimits (size_of kind i)

@@ -51,15 +51,15 @@ fn solve_for<L: Ledger>(
     searched(alloc, instance, kind, brief, steps)
 }
 
-/// Solves an instance of a kind whose best answers duals prove: the document of a best answer, or of
-/// what excludes all answers. It proves what it states, whole: an accepting judge is sure. A perfect
-/// matching of least weight is sought in the certificate graph of the kind (Schrijver, Combinatorial
-/// Optimization, volume A, chapter 26 for matchings, 29 for joins, tours and paths, 31 to 33 for
-/// b-matchings, capacities and factors, 35 for degrees between two bounds). If the kind asks for
-/// conservative weights and some edge weighs less than 0, an even set of edges of least weight is
-/// sought first, to tell whether they are. The instance has what the kind needs: for a tour no edge
-/// weighs less than 0, for a path two vertices have odd values, its ends, and for a path of an odd
-/// or an even number of edges both hold.
+/// Solves an instance of a kind whose best answers duals prove: the document of a best answer, or
+/// of what excludes all answers. It proves what it states, whole: an accepting judge is sure. A
+/// perfect matching of least weight is sought in the certificate graph of the kind (Schrijver,
+/// Combinatorial Optimization, volume A, chapter 26 for matchings, 29 for joins, tours and paths,
+/// 31 to 33 for b-matchings, capacities and factors, 35 for degrees between two bounds). If the
+/// kind asks for conservative weights and some edge weighs less than 0, an even set of edges of
+/// least weight is sought first, to tell whether they are. The instance has what the kind needs:
+/// for a tour no edge weighs less than 0, for a path two vertices have odd values, its ends, and
+/// for a path of an odd or an even number of edges both hold.
 ///
 /// The steps of the searches are counted on `steps`: looks at edges and events. What it takes
 /// besides them is linear in that graph and the members of the sets, but for sets of less than a
