@@ -21,6 +21,7 @@ import header_page
 import must_fail_page
 import proof_page
 import python_page
+import wrong_bodies_page
 from crate_groups import TOP, read
 
 #: What makes a part, by page and name.
@@ -39,7 +40,10 @@ PARTS = {
         "tasks": header_page.tasks_part,
         "kinds": header_page.kinds_part,
     },
-    "docs/TESTING.md": {"must-fail edits": must_fail_page.must_fail_part},
+    "docs/TESTING.md": {
+        "must-fail edits": must_fail_page.must_fail_part,
+        "wrong bodies": wrong_bodies_page.wrong_bodies_part,
+    },
     "docs/PROOF.md": {"reach": proof_page.reach_part},
 }
 #: Parts that other scripts make: a name, or the path of the script, and the script.
