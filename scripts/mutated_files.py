@@ -176,12 +176,12 @@ class Copy:
                 os.makedirs(os.path.dirname(place), exist_ok=True)
                 shutil.copy(path, place)
         for words in ("init", "add -A", "commit -m all"):
-            self.git(*words.split())
+            self.git(words)
 
-    def git(self, *words):
+    def git(self, words):
         names = ["-c", "user.name=nobody", "-c", "user.email=nobody@localhost"]
         how = {"stdout": subprocess.DEVNULL, "cwd": self.room, "check": True}
-        subprocess.run(["git", *names, words[0], "-q", *words[1:]], **how)
+        subprocess.run(["git", *names, *words.split()], **how)
 
     def run(self, words, seconds):
         """Whether a test passes."""
@@ -220,8 +220,8 @@ class Copy:
             with open(path, "w", encoding="utf-8") as file:
                 file.write(mutations.changed(text, [change]))
             passed = self.run(words, max(SECONDS, 4 * self.times[name]))
-            self.git("reset", "--hard")
-            self.git("clean", "-fd")
+            self.git("reset -q --hard")
+            self.git("clean -q -f -d")
             if not passed:
                 return name
         return None

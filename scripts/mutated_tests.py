@@ -33,8 +33,10 @@ sys.exit(status)
 #: Runs some parts of the end-to-end tests; the status is 1 if a test fails. A part gets what its
 #: parameters name: the program, the library for C whatever sources capi/out is of, or a release.
 PARTS = """
-import importlib, os, sys, tempfile
+import importlib, os, signal, sys, tempfile
 sys.path.insert(0, "tests")
+signal.signal(signal.SIGINT, signal.default_int_handler)
+signal.signal(signal.SIGHUP, signal.SIG_DFL)
 class Tests:
     passed = failed = skipped = 0
     def skip(self, name, reason):
@@ -71,7 +73,10 @@ TAKEN = (
 )
 PAGES = (
     "pages.planted_lengths pages.planted_refusals pages.planted_prose pages.planted_promises"
-    " pages.planted_names pages.planted_parts pages.generated"
+    " pages.planted_names written_pages.lengths written_pages.prose_of_files"
+    " written_pages.groups_of_crates written_pages.names_of_pages pages.planted_parts"
+    " written_pages.figures_that_differ written_pages.checked written_pages.written"
+    " pages.generated"
 )
 CLAUSES = "clause_tools.clauses clause_tools.uncited clause_tools.revisions clause_tools.equal"
 RELEASES = (

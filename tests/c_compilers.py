@@ -30,6 +30,7 @@ int main(void) {
 %s    return (int)call(BLOSSOM_SOLVE, BLOSSOM_PERFECT, &byte, 0, &byte, 0, &used);
 }
 """
+SANITIZED = ["-fsanitize=address,undefined", "-fno-sanitize-recover=all", "-g"]
 CALL = """#include "blossom.h"
 int main() { return blossom_abi() == BLOSSOM_ABI ? 0 : 1; }
 """
@@ -76,20 +77,19 @@ def written(room, name, text):
 
 
 def example(program, library, tests):
-    """The example compiles with each library, as C of 1999 without a warning, and runs."""
+    """The example compiles with each library, as C of 1999 without a warning, and runs; with
+    sanitizers too, which tell memory that isn't given back."""
     solved = run(program, ["solve", "perfect"], TRIANGLES)[1]
     wanted = (0, b"16 bytes are too few for %d\n" % len(solved) + solved + b"s ACCEPTED\n", b"")
-    for name in ("libblossom.so", "libblossom.a"):
+    source = os.path.join(CAPI, "example.c")
+    for name, more in (("libblossom.so", []), ("libblossom.a", []), ("libblossom.so", SANITIZED)):
+        what, of = "the example%s" % (", sanitized" if more else ""), (*C[:2], [*C[2], *more])
         with tempfile.TemporaryDirectory() as room:
-            made = compiled(tests, "the example", C, os.path.join(CAPI, "example.c"), name, room)
+            made = compiled(tests, what, of, source, name, room)
             if made:
                 done = subprocess.run([made], capture_output=True, timeout=60)
-                tests.compare(
-                    "the example with " + name,
-                    b"",
-                    wanted,
-                    (done.returncode, done.stdout, done.stderr),
-                )
+                got = done.returncode, done.stdout, done.stderr
+                tests.compare("%s with %s" % (what, name), b"", wanted, got)
 
 
 def failing_examples(program, library, tests):
