@@ -251,6 +251,7 @@ def tried(where, chance, count, program, only=(), done=0, kept=None):
     with tempfile.TemporaryDirectory(prefix="blossom-mutants-") as room:
         copy = Copy(room, os.path.abspath(program))
         copy.reached = all_reached(copy, kept) if where == "python" else {}
+        copy.times = {"python." + test: time for test, (time, _) in copy.reached.items()}
         found = readable_ones(where, chance, count, only)
         for body, change, text in itertools.islice(found, done, None):
             test = copy.noticed(where, body, change, text)

@@ -131,7 +131,7 @@ def words_of(part, program):
     """How a part is run: of the end-to-end tests, or a test module of the Python package."""
     module, _, name = part.partition(".")
     if module == "python":
-        return [PYTHON, "tests/python/run.py", name]
+        return [PYTHON, "tests/python/run.py", "--failfast", name]
     return [sys.executable, "-c", PARTS, program, part]
 
 
