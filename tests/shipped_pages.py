@@ -26,6 +26,13 @@ DEFINED = (
     "VERTEX_LIMIT",
 )
 
+#: A page, the files that it links, and the pages that it names.
+PAGE = """[a](FORMAT.md#top), [b](https://example.org/A.md), [c](../README.md), [d](#here)
+![e](pictures/tour.svg), `FORMAT.md`, docs/C.md, NO_SUCH.md and `CHANGELOG.md`.
+"""
+LINKED = ["docs/FORMAT.md", "README.md", "docs/pictures/tour.svg"]
+NAMED = {"docs/FORMAT.md", "README.md", "docs/C.md", "CHANGELOG.md"}
+
 
 def pages(folder):
     """The pages below a folder, by their paths."""
@@ -58,6 +65,9 @@ def contracts(text, tests):
 
 def shipped_pages(program, release, tests):
     """All of it."""
+    of = script("release_pages")
+    got = list(of.links("docs/A.md", PAGE)), set(of.named("docs/A.md", PAGE))
+    tests.compare("what a page links and names", PAGE, (LINKED, NAMED), got)
     with tempfile.TemporaryDirectory() as room:
         home = os.path.join(release.unpacked(room), HOME)
         found = pages(home)
