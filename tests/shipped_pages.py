@@ -26,6 +26,9 @@ DEFINED = (
     "VERTEX_LIMIT",
 )
 
+#: A file on the page of contracts, with what it shows of it; and what that page counts.
+SECTION = re.compile(r"^### (crates/\S+)\n\n```\n(.*?)\n```\n", re.M | re.S)
+COUNTS = re.compile(r"(\d+)\s+definitions and (\d+) types and constants")
 #: A page, the files that it links, and the pages that it names.
 PAGE = """[a](FORMAT.md#top), [b](https://example.org/A.md), [c](../README.md), [d](#here)
 ![e](pictures/tour.svg), `FORMAT.md`, docs/C.md, NO_SUCH.md and `CHANGELOG.md`.
@@ -63,6 +66,21 @@ def contracts(text, tests):
     tests.compare("definitions that the contracts lack", b"", [], missing)
 
 
+def definitions(text, tests):
+    """Each piece of a file on the page stands so in the file, and there are as many definitions and
+    types as the page says."""
+    starts = {".antt": script("uncited_definitions").DEFINITION, ".rt": script("contracts").TYPE}
+    heads, strange = dict.fromkeys(starts, 0), []
+    for path, shown in SECTION.findall(text):
+        source, ending = bytes_of(os.path.join(TOP, path)).decode(), os.path.splitext(path)[1]
+        strange += [piece for piece in shown.split("\n\n") if piece not in source]
+        heads[ending] += sum(bool(starts[ending].match(line)) for line in shown.split("\n"))
+    told = COUNTS.search(text)
+    tests.compare("pieces of contracts that no file has", b"", [], strange)
+    wanted = {".antt": int(told[1]), ".rt": int(told[2])}
+    tests.compare("definitions and types of the contracts", b"", wanted, heads)
+
+
 def shipped_pages(program, release, tests):
     """All of it."""
     of = script("release_pages")
@@ -80,6 +98,7 @@ def shipped_pages(program, release, tests):
         named = set(re.findall(r"`((?:docs/)?[A-Z]+\.md)`", front))
         tests.compare("pages that the tarball's page names in vain", b"", set(), named - set(found))
         contracts(found["CONTRACTS.md"].decode(), tests)
+        definitions(found["CONTRACTS.md"].decode(), tests)
         with zipfile.ZipFile(release.wheel) as wheel:
             inside = {
                 name.partition(HOME)[2]: wheel.read(name)
