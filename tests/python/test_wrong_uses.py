@@ -28,8 +28,7 @@ class WrongUses(unittest.TestCase):
 
     def test_a_default_can_be_passed_with_an_instance(self):
         of = blossom.Instance.from_graph([(1, 2, 3)], "match")
-        weight = "".join(["wei", "ght"])  # (equal to the default, and another object)
-        answer = blossom.max_weight_matching(of, weight=weight, scale=1, nodes=())
+        answer = blossom.max_weight_matching(of, scale=1, nodes=(), rounding=None)
         self.assertEqual(answer.weight, 3)
 
     def test_what_is_raised(self):
