@@ -78,7 +78,10 @@ PAGES = (
     " written_pages.figures_that_differ written_pages.checked written_pages.written"
     " pages.generated"
 )
-CLAUSES = "clause_tools.clauses clause_tools.uncited clause_tools.revisions clause_tools.equal"
+CLAUSES = (
+    "clause_tools.clauses clause_tools.public clause_tools.uncited clause_tools.revisions"
+    " clause_tools.equal"
+)
 RELEASES = (
     "release.contents release.shipped_pages release.same_bytes release.binaries release.stamps"
     " release.refusals dist.stand_in release.c_library_alone release.this_python release.lintian"

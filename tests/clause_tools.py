@@ -187,6 +187,22 @@ def revisions(tests):
         tests.compare("clauses of two revisions", "", wanted, (done.returncode, lines))
 
 
+def public(tests):
+    """Clauses of public calls and of implementations of a trait are public."""
+    sys.path.insert(0, SCRIPTS)
+    import uncited_definitions as script
+
+    for clause, wanted in (
+        ("requires room", True),
+        ("ensures hidden", False),
+        ("ensures next", True),
+        ("ensures value", True),
+    ):
+        got = script.is_public(SOURCE, SOURCE.index(clause))
+        tests.compare("whether a clause is public: " + clause, SOURCE, wanted, got)
+    sys.path.remove(SCRIPTS)
+
+
 def uncited(tests):
     with tempfile.TemporaryDirectory() as room:
         laid_out(room)
@@ -213,5 +229,5 @@ def equal(tests):
 
 
 def check(tests):
-    for part in (clauses, revisions, uncited, equal):
+    for part in (clauses, revisions, public, uncited, equal):
         part(tests)
