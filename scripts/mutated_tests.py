@@ -68,8 +68,8 @@ BUILDS = (
     " library_builds.failures"
 )
 TAKEN = (
-    "dist_program.built_instead dist_program.damaged dist_program.taken"
-    " dist_program.other_sources dist_program.package"
+    "dist_program.built_of_others dist_program.built_instead dist_program.damaged"
+    " dist_program.taken dist_program.other_sources dist_program.package"
 )
 PAGES = (
     "pages.planted_lengths pages.planted_refusals pages.planted_prose pages.planted_promises"
