@@ -1,42 +1,63 @@
 #!/usr/bin/env python3
-"""Prints the statements of equal type, up to the names of bound variables, that stand in two or more files of proofs/: each should stand
-once, in the lowest crate that can hold it. Usage: equal_statements.py [TOP]. The last line counts them and their spare copies."""
+"""Lists the statements that two or more files of proofs/ have, up to the names of bound variables:
+each should stand once, in the lowest crate that can hold it.
+
+Usage: equal_statements.py [TOP]. For each statement it prints the places, and then the type. The
+last line counts them and their spare copies."""
 import collections
 import glob
+import os
 import re
 import sys
 
-top = sys.argv[1] if len(sys.argv) > 1 else "."
-groups=collections.defaultdict(list)
-def norm(t):
-    t=re.sub(r'\s+',' ',t).strip()
-    names=[]
-    for m in re.finditer(r'[({]([^(){}:]+?) : ',t):
-        for n in m.group(1).split():
-            if n not in names: names.append(n)
-    for m in re.finditer(r'λ \(?([^.():]+?)(?: :[^.]*?)?\)?\. ',t):
-        for n in m.group(1).split():
-            if n not in names: names.append(n)
-    for i,n in enumerate(names):
-        t=re.sub(r'(?<![\w.\-])'+re.escape(n)+r'(?![\w\-])','§%d'%i,t)
-    return t
-for p in sorted(glob.glob(top+'/crates/*/proofs/**/*.antt',recursive=True)):
-    if '/out/' in p: continue
-    s=open(p).read()
-    # a statement goes on in the lines that are indented
-    lines=s.split('\n'); i=0
-    while i<len(lines):
-        m=re.match(r'^(pub )?(abbrev )?([^\s:()\-][^\s:]*) : (.*)$',lines[i])
-        if m and not lines[i].startswith(('use','record','--')):
-            t=m.group(4); j=i+1
-            while j<len(lines) and lines[j].startswith('  ') and not re.match(r'^'+re.escape(m.group(3))+r'\b',lines[j]):
-                t+=' '+lines[j].strip(); j+=1
-            groups[norm(t)].append((p[len(top)+8:],m.group(3)))
-        i+=1
-n=0;c=0
-for t,ps in sorted(groups.items()):
-    files=sorted(set(p for p,_ in ps))
-    if len(files)>1 and '→' in t:
-        n+=1; c+=len(files)-1
-        print('; '.join('%s:%s'%x for x in ps)); print('      '+t[:230])
-print(n,'statements',c,'spare copies')
+STATEMENT = re.compile(r"(?:pub )?(?:abbrev )?([^\s:()\-][^\s:]*) : (.*)$")
+#: What binds names: brackets with a type, and functions.
+BOUND = (r"[({]([^(){}:]+?) : ", r"λ \(?([^.():]+?)(?: :[^.]*?)?\)?\. ")
+SHOWN = 230
+
+
+def without_names(statement):
+    """A statement with numbers in place of the names that it binds."""
+    text = re.sub(r"\s+", " ", statement).strip()
+    names = [name for bound in BOUND for found in re.findall(bound, text) for name in found.split()]
+    for number, name in enumerate(dict.fromkeys(names)):
+        text = re.sub(r"(?<![\w.\-])%s(?![\w\-])" % re.escape(name), "§%d" % number, text)
+    return text
+
+
+def statements(text):
+    """The statements of a file, each a name and a type: a type goes on in indented lines."""
+    lines = text.split("\n")
+    for number, line in enumerate(lines):
+        head = STATEMENT.match(line)
+        if head and not line.startswith(("use", "record")):
+            end = number + 1
+            while end < len(lines) and lines[end].startswith("  "):
+                end += 1
+            yield head[1], " ".join([head[2], *(one.strip() for one in lines[number + 1 : end])])
+
+
+def equal_ones(top):
+    """Statements that several files have, with their places."""
+    found = collections.defaultdict(list)
+    for path in sorted(glob.glob(os.path.join(top, "crates/*/proofs/**/*.antt"), recursive=True)):
+        with open(path, encoding="utf-8") as file:
+            for name, statement in statements(file.read()):
+                place = os.path.relpath(path, os.path.join(top, "crates"))
+                found[without_names(statement)].append((place, name))
+    for statement, places in sorted(found.items()):
+        if len({path for path, _ in places}) > 1 and "→" in statement:
+            yield statement, places
+
+
+def main(words):
+    copies = []
+    for statement, places in equal_ones(words[0] if words else "."):
+        print("; ".join("%s:%s" % place for place in places))
+        print("      " + statement[:SHOWN])
+        copies.append(len({path for path, _ in places}) - 1)
+    print("%d statements, %d spare copies" % (len(copies), sum(copies)))
+
+
+if __name__ == "__main__":
+    main(sys.argv[1:])

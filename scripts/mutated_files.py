@@ -3,99 +3,27 @@ that they are in, in a copy of the checkout. A body is noticed if one of these t
 too long; tests that fail without it are left out."""
 import ast
 import collections
+import contextlib
 import glob
 import itertools
 import json
 import os
 import shutil
 import subprocess
-import sys
 import tempfile
 import time
 
+import mutated_tests
 import mutations
+import targets
 from sources import TOP
 
 #: Where a body is: its file, its name, the place of its head, and the places between which it is.
 Body = collections.namedtuple("Body", "file name first start end")
-#: The Python that has the libraries of tests, and the test modules that start it.
-PYTHON = "/usr/bin/python3" if os.path.exists("/usr/bin/python3") else sys.executable
-PROCESSES = (
-    "test_commands test_process test_users test_convert test_gallery test_package test_batch"
-).split()
-#: Runs a test module, and notes the functions of the package that are called in its process.
-REACHED = """
-import json, os, runpy, sys, threading
-told, test = sys.argv[1:]
-folder, codes, status = os.path.abspath("python/blossom") + os.sep, set(), 1
-def hook(frame, event, argument):
-    if event == "call":
-        codes.add(frame.f_code)
-sys.argv = ["run.py", test]
-threading.setprofile(hook)
-sys.setprofile(hook)
-try:
-    runpy.run_path("tests/python/run.py", run_name="__main__")
-except SystemExit as ended:
-    status = ended.code
-sys.setprofile(None)
-with open(told, "w", encoding="utf-8") as file:
-    found = {(code.co_filename, code.co_firstlineno) for code in codes}
-    json.dump(sorted((os.path.relpath(path), line) for path, line in found
-                     if path.startswith(folder)), file)
-sys.exit(status)
-"""
-#: Runs some parts of the end-to-end tests; the status is 1 if a test fails.
-PARTS = """
-import importlib, os, sys
-sys.path.insert(0, "tests")
-class Tests:
-    passed = failed = skipped = 0
-    def skip(self, name, reason):
-        self.skipped += 1
-    def compare(self, name, given, wanted, got):
-        if wanted != got:
-            print("FAILED", name, repr(wanted)[:300], repr(got)[:300], flush=True)
-            os._exit(1)
-        self.passed += 1
-tests, program = Tests(), os.path.abspath(sys.argv[1])
-for name in sys.argv[2:]:
-    module, _, part = name.partition(".")
-    call = getattr(importlib.import_module(module), part or "check")
-    call(*[program, None, tests][-call.__code__.co_argcount:] if part else
-         [program, tests][-call.__code__.co_argcount:])
-print(tests.passed, "passed")
-sys.exit(0 if tests.passed else 1)
-"""
-#: The same for parts of the tests of the library for C, whatever sources capi/out is of.
-C_PARTS = PARTS.replace(
-    "for name in sys.argv[2:]:",
-    "import c_parts\nlibrary = c_parts.Library()\nfor name in sys.argv[2:]:",
-).replace("[program, None, tests]", "[program, library, tests]")
-#: Which parts are for which scripts.
-OF_SCRIPTS = {
-    "builds launcher library_builds": "build compiling link_library link_program sources targets",
-    "pages": "docs figures kinds prose",
-    "clause_tools": "compare_clauses uncited_definitions",
-    "release": "blossom_verify debian_package gate_stamp release",
-}
-#: Which parts of the tests of the library for C are for which files; for the header all are, and
-#: others.
-OF_C = {
-    "parts.c": ["c_structs.parts_of_answers"],
-    "refused.c": ["c_structs.buffers_without_an_answer"],
-    "answers.cpp": ["c_structs.c_plus_plus"],
-    "temporaries.cpp": ["c_structs.temporaries"],
-    "example_arrays.c": ["c_structs.example", "c_compilers.failing_examples"],
-    "example.c": ["c_compilers.example", "c_compilers.failing_examples"],
-    "blossom.hpp": ["c_structs.c_plus_plus", "c_structs.temporaries"],
-}
-OF_HEADER = (
-    "c_compilers.numbers_and_types c_compilers.header_in_c_plus_plus c_arrays.faults"
-    " c_edge.statuses c_edge.no_such_call c_edge.python_numbers c_edge.longest_answer"
-    " c_edge.version"
-).split()
+#: The seconds that a test may take, or four times as many as it takes without a change.
 SECONDS = 240
+#: Libraries that tests of the Python package find before those that are installed.
+LIBRARIES = "out/libraries/usr/lib/python3/dist-packages"
 
 
 def functions(path, text):
@@ -200,7 +128,7 @@ def reached(copy, test):
     told = os.path.join(copy.room, "out", "reached")
     os.makedirs(os.path.dirname(told), exist_ok=True)
     begun = time.monotonic()
-    if not copy.run([PYTHON, "-c", REACHED, told, test]):
+    if not copy.run([mutated_tests.PYTHON, "-c", mutated_tests.REACHED, told, test], 8 * SECONDS):
         return None
     with open(told, encoding="utf-8") as file:
         return time.monotonic() - begun, {tuple(one) for one in json.load(file)}
@@ -225,85 +153,75 @@ def all_reached(copy, kept):
     return found
 
 
-def test_modules(body, text, found):
-    """The test modules that can notice a change of a function, the quickest first: those that call
-    it, and then those that start processes."""
-    first = text.count("\n", 0, body.first) + 1
-    calls = sorted((time, test) for test, (time, own) in found.items() if (body.file, first) in own)
-    others = [test for test in PROCESSES if test in found and (found[test][0], test) not in calls]
-    return [test for _, test in calls] + others
-
-
-def commands(where, body, text, copy):
-    """The tests of a body, in the order in which they are tried: the words of each."""
-    program = copy.program
-    if where == "python":
-        for test in test_modules(body, text, copy.reached):
-            yield test, [PYTHON, "tests/python/run.py", test]
-    elif where == "scripts":
-        name = os.path.basename(body.file)[: -len(".py")]
-        for parts, own in OF_SCRIPTS.items():
-            if name in own.split():
-                for part in parts.split():
-                    yield part, [sys.executable, "-c", PARTS, program, part]
-    else:
-        every = list(dict.fromkeys(sum(OF_C.values(), []))) + OF_HEADER
-        for part in OF_C.get(os.path.basename(body.file), every):
-            yield part, [sys.executable, "-c", C_PARTS, program, part]
+def built():
+    """The paths of the program and the library for C, and of their stamps."""
+    for target in targets.TARGETS.values():
+        yield target.stamp
+        yield from (os.path.join(target.folder, name) for name in target.names)
 
 
 class Copy:
-    """A copy of the checkout in which tests run over a program."""
+    """A copy of the checkout, as a repository of its own, in which tests run over a program. What a
+    test leaves goes with it."""
 
     def __init__(self, room, program, top=TOP):
-        self.room, self.program, self.fails = os.path.join(room, "copy"), program, {}
+        self.room, self.program, self.times = os.path.join(room, "copy"), program, {}
         self.reached = {}
         shutil.copytree(
             top, self.room, symlinks=True, ignore=lambda at, names: left_out(top, at, names)
         )
+        for path in built():
+            place = os.path.join(self.room, os.path.relpath(path, top))
+            if os.path.exists(path) and not os.path.exists(place):
+                os.makedirs(os.path.dirname(place), exist_ok=True)
+                shutil.copy(path, place)
+        for words in ("init", "add -A", "commit -m all"):
+            self.git(words)
 
-    def run(self, words):
+    def git(self, words):
+        names = ["-c", "user.name=nobody", "-c", "user.email=nobody@localhost"]
+        how = {"stdout": subprocess.DEVNULL, "cwd": self.room, "check": True}
+        subprocess.run(["git", *names, *words.split()], **how)
+
+    def run(self, words, seconds):
         """Whether a test passes."""
         environment = dict(os.environ, BLOSSOM=self.program, PYTHONDONTWRITEBYTECODE="1")
-        how = {"stdout": subprocess.DEVNULL, "stderr": subprocess.DEVNULL}
-        group = subprocess.Popen(
-            words,
-            cwd=self.room,
-            stdin=subprocess.DEVNULL,
-            env=environment,
-            start_new_session=True,
-            **how
-        )
-        try:
-            return group.wait(SECONDS) == 0
-        except subprocess.TimeoutExpired:
-            return False
-        finally:
-            if group.poll() is None:
-                os.killpg(group.pid, 9)
+        environment["BLOSSOM_TEST_LIBRARIES"] = os.path.join(self.room, LIBRARIES)
+        with tempfile.TemporaryDirectory(prefix="run", ignore_cleanup_errors=True) as left:
+            environment["TMPDIR"] = left
+            how = {"stdin": subprocess.DEVNULL, "stdout": subprocess.DEVNULL}
+            how.update(stderr=subprocess.DEVNULL, start_new_session=True, env=environment)
+            group = subprocess.Popen(words, cwd=self.room, **how)
+            try:
+                return group.wait(seconds) == 0
+            except subprocess.TimeoutExpired:
+                return False
+            finally:
+                with contextlib.suppress(ProcessLookupError):
+                    os.killpg(group.pid, 9)
                 group.wait()
 
     def passes(self, name, words):
-        """Whether a test passes without a change."""
-        if name not in self.fails:
-            self.fails[name] = not self.run(words)
-            if self.fails[name]:
+        """Whether a test passes without a change. It may take long then."""
+        if name not in self.times:
+            begun = time.monotonic()
+            passed = self.run(words, 8 * SECONDS)
+            self.times[name] = time.monotonic() - begun if passed else None
+            if not passed:
                 print("left out: %s (it fails without a change)" % name, flush=True)
-        return not self.fails[name]
+        return self.times[name] is not None
 
     def noticed(self, where, body, change, text):
         """The test that notices a change, or None."""
         path = os.path.join(self.room, body.file)
-        for name, words in commands(where, body, text, self):
-            with open(path, "w", encoding="utf-8") as file:
-                file.write(text)
+        for name, words in mutated_tests.commands(where, body, text, self):
             if not self.passes(name, words):
                 continue
             with open(path, "w", encoding="utf-8") as file:
                 file.write(mutations.changed(text, [change]))
-            passed = self.run(words)
-            with open(path, "w", encoding="utf-8") as file:
-                file.write(text)
+            passed = self.run(words, max(SECONDS, 4 * self.times[name]))
+            self.git("reset -q --hard")
+            self.git("clean -q -f -d")
             if not passed:
                 return name
         return None
@@ -333,6 +251,7 @@ def tried(where, chance, count, program, only=(), done=0, kept=None):
     with tempfile.TemporaryDirectory(prefix="blossom-mutants-") as room:
         copy = Copy(room, os.path.abspath(program))
         copy.reached = all_reached(copy, kept) if where == "python" else {}
+        copy.times = {"python." + test: time for test, (time, _) in copy.reached.items()}
         found = readable_ones(where, chance, count, only)
         for body, change, text in itertools.islice(found, done, None):
             test = copy.noticed(where, body, change, text)

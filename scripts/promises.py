@@ -69,11 +69,10 @@ class Source:
 
 
 def promises_of(text, definitions):
-    """The promises of a source, in their order."""
+    """The promises of a source, which ends with a closed block, in their order."""
     source = Source(text, definitions)
     for line in text.split("\n"):
         source.take(line)
-    source.close()
     return source.found
 
 

@@ -8,6 +8,7 @@ import sys
 
 from crate_groups import TOP
 
+sys.path.insert(0, os.path.join(TOP, "python"))
 #: The sections of the guide: a heading, and the module whose docstring has the section behind its
 #: first paragraph.
 GUIDE = (
@@ -61,8 +62,6 @@ FIELD = "Alias for field number"
 
 def package(name="blossom"):
     """A module of the checkout's package."""
-    if sys.path[0] != os.path.join(TOP, "python"):
-        sys.path.insert(0, os.path.join(TOP, "python"))
     return importlib.import_module(name)
 
 
@@ -119,10 +118,7 @@ def items_of(body):
         head, *rest = re.sub(r",\n(?=\S)", ", ", item).split("\n")
         name, _, kind = head.partition(" : ")
         said = " ".join(line.strip() for line in rest).strip()
-        if re.match(r"[A-Z]\w* \w+ ", name):
-            yield " ".join([head, said]).strip()
-        else:
-            yield "`%s`%s%s" % (name, " (%s)" % kind if kind else "", ": " + said if said else "")
+        yield "`%s`%s%s" % (name, " (%s)" % kind if kind else "", ": " + said if said else "")
 
 
 def members(thing):

@@ -265,6 +265,8 @@ def faults(program, library, tests):
     for kind, values in (("bmatch", [0] * 4096), ("interval", [0] * 8192)):
         status = arrays.answer("SOLVE_WITHOUT_PROOF", kind, (*most, values))[0]
         tests.compare("over arrays, the greatest of all, " + kind, b"", 0, status)
+    outcomes = {number: name for name, number in header.outcomes.items()}
+    tests.compare("over arrays, the numbers of outcomes", b"", OUTCOMES, outcomes)
     unused = 7 not in header.input_errors.values()
     tests.compare("over arrays, no rule has number 7", b"", True, unused)
     untouched = (header.statuses["INVALID_ARGUMENT"], 0, [7] * 21)

@@ -30,6 +30,7 @@ int main(void) {
 %s    return (int)call(BLOSSOM_SOLVE, BLOSSOM_PERFECT, &byte, 0, &byte, 0, &used);
 }
 """
+SANITIZED = ["-fsanitize=address,undefined", "-fno-sanitize-recover=all", "-g"]
 CALL = """#include "blossom.h"
 int main() { return blossom_abi() == BLOSSOM_ABI ? 0 : 1; }
 """
@@ -76,42 +77,46 @@ def written(room, name, text):
 
 
 def example(program, library, tests):
-    """The example compiles with each library, as C of 1999 without a warning, and runs."""
+    """The example compiles with each library, as C of 1999 without a warning, and runs; with
+    sanitizers too, which tell memory that isn't given back."""
     solved = run(program, ["solve", "perfect"], TRIANGLES)[1]
     wanted = (0, b"16 bytes are too few for %d\n" % len(solved) + solved + b"s ACCEPTED\n", b"")
-    for name in ("libblossom.so", "libblossom.a"):
+    source = os.path.join(CAPI, "example.c")
+    for name, more in (("libblossom.so", []), ("libblossom.a", []), ("libblossom.so", SANITIZED)):
+        what, of = "the example%s" % (", sanitized" if more else ""), (*C[:2], [*C[2], *more])
         with tempfile.TemporaryDirectory() as room:
-            made = compiled(tests, "the example", C, os.path.join(CAPI, "example.c"), name, room)
+            made = compiled(tests, what, of, source, name, room)
             if made:
                 done = subprocess.run([made], capture_output=True, timeout=60)
-                tests.compare(
-                    "the example with " + name,
-                    b"",
-                    wanted,
-                    (done.returncode, done.stdout, done.stderr),
-                )
+                got = done.returncode, done.stdout, done.stderr
+                tests.compare("%s with %s" % (what, name), b"", wanted, got)
 
 
 def failing_examples(program, library, tests):
-    """Each example says what is wrong and ends with 1 if the library is of another version, and if
-    its calls run out of memory."""
+    """Each example says what is wrong and ends with 1 if the library is of another version, if its
+    calls or the example run out of memory, and if there is no optimal answer."""
     abi, out_of_memory = library.header.abi, library.header.statuses["OUT_OF_MEMORY"]
     compiler, words = found(C)
     other = b"the library has version %d, its header %d: install both of one release\n"
-    for name, version, wanted in (
-        ("example.c", abi + 1, other % (abi + 1, abi)),
-        ("example_arrays.c", abi + 1, other % (abi + 1, abi)),
-        ("example.c", abi, b"out of memory\n"),
-        ("example_arrays.c", abi, b"status 8, index 0: out of memory\n"),
+    no_memory = ["-Dmalloc=no_memory"]
+    for name, version, status, more, wanted in (
+        ("example.c", abi + 1, out_of_memory, [], other % (abi + 1, abi)),
+        ("example_arrays.c", abi + 1, out_of_memory, [], other % (abi + 1, abi)),
+        ("example.c", abi, out_of_memory, [], b"out of memory\n"),
+        ("example_arrays.c", abi, out_of_memory, [], b"status 8, index 0: out of memory\n"),
+        ("example.c", abi, 0, no_memory, b"out of memory\n"),
+        ("example_arrays.c", abi, 0, no_memory, b"status 8, index 0: out of memory\n"),
+        ("example_arrays.c", abi, 0, [], b"status 0, index 0: success\n"),
     ):
-        told = ["-DVERSION=%d" % version, "-DSTATUS=%d" % out_of_memory, "-I" + CAPI]
+        told = ["-DVERSION=%d" % version, "-DSTATUS=%d" % status, "-I" + CAPI, *more]
         sources = [os.path.join(CAPI, name), os.path.join(SOURCES, "stand_in.c")]
         with tempfile.TemporaryDirectory() as room:
             made = os.path.join(room, "made")
             subprocess.run([compiler, *words, *told, *sources, "-o", made], check=True)
             done = subprocess.run([made], capture_output=True, timeout=60)
             got = done.returncode, done.stdout, done.stderr
-            tests.compare("%s with version %d" % (name, version), b"", (1, b"", wanted), got)
+            what = "%s with version %d, status %d %s" % (name, version, status, " ".join(more))
+            tests.compare(what, b"", (1, b"", wanted), got)
 
 
 #: The names of 1.0.0 that have another one now, and their numbers.

@@ -218,8 +218,8 @@ def example(program, library, tests):
     on the caller's side, where the compiler has them."""
     wanted = printed(Arrays(library))
     source = os.path.join(os.path.abspath(CAPI), "example_arrays.c")
-    sanitizing = ["-fsanitize=address,undefined", "-fno-sanitize-recover=all", "-g"]
-    for name, more in (("libblossom.so", []), ("libblossom.a", []), ("libblossom.so", sanitizing)):
+    sanitized = c_compilers.SANITIZED
+    for name, more in (("libblossom.so", []), ("libblossom.a", []), ("libblossom.so", sanitized)):
         what = "the example over arrays%s with %s" % (", sanitized," if more else "", name)
         text = ran(tests, what, c_compilers.C, source, name, more)
         tests.compare(what, b"", wanted, text)

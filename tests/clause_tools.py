@@ -1,5 +1,6 @@
-"""Tests of the scripts that read clauses: in a small made repository they find which calls, clauses
-and definitions went or changed, what is explained, and which definitions no clause cites."""
+"""Tests of the scripts that read clauses and proofs: in a small made repository they find which
+calls, clauses and definitions went or changed, what is explained, which definitions no clause
+cites, and which statements stand twice."""
 import os
 import subprocess
 import sys
@@ -105,6 +106,26 @@ low/specs/Laws.antt:10: IsDeep: private clauses alone; named in 0 of proofs/
 """
 
 
+#: Files of proofs, and what is said of the statements in them.
+PROOFS = (
+    ("a/proofs/One.antt", "few : (n : ℕ) → n < 9\n\npub wide : {a b : ℕ} →\n  a < b → a ≤ b\n"),
+    ("a/proofs/inner/Two.antt", "less : {m k : ℕ} → m < k →\n    m ≤ k\nless lt = ?\nnone : ℕ\n"),
+    ("b/proofs/Two.antt", "-- few\nsome : (k : ℕ) → k < 9\nother : (k : ℕ) → k < 8\nnone : ℕ\n"),
+    ("b/proofs/Three.antt", "pub abbrev more : (x : ℕ) → x < 9\nmore = ?\n"),
+    ("b/proofs/Four.antt", "f : Same (λ x. x) → ℕ\nf = ?\nf2 : Same (λ y. x) → ℕ\n"),
+    ("b/proofs/Five.antt", "g : Same (λ y. y) → ℕ\nuse A.{wide : ℕ → ℕ}\n"),
+    ("b/specs/Five.antt", "few : (n : ℕ) → n < 9\n"),
+)
+EQUAL = """a/proofs/One.antt:few; b/proofs/Three.antt:more; b/proofs/Two.antt:some
+      (§0 : ℕ) → §0 < 9
+b/proofs/Five.antt:g; b/proofs/Four.antt:f
+      Same (λ §0. §0) → ℕ
+a/proofs/One.antt:wide; a/proofs/inner/Two.antt:less
+      {§0 §1 : ℕ} → §0 < §1 → §0 ≤ §1
+3 statements, 4 spare copies
+"""
+
+
 def laid_out(folder, old="", new=""):
     """The made repository in a folder, with one change."""
     for path, text in (
@@ -166,6 +187,22 @@ def revisions(tests):
         tests.compare("clauses of two revisions", "", wanted, (done.returncode, lines))
 
 
+def public(tests):
+    """Clauses of public calls and of implementations of a trait are public."""
+    sys.path.insert(0, SCRIPTS)
+    import uncited_definitions as script
+
+    for clause, wanted in (
+        ("requires room", True),
+        ("ensures hidden", False),
+        ("ensures next", True),
+        ("ensures value", True),
+    ):
+        got = script.is_public(SOURCE, SOURCE.index(clause))
+        tests.compare("whether a clause is public: " + clause, SOURCE, wanted, got)
+    sys.path.remove(SCRIPTS)
+
+
 def uncited(tests):
     with tempfile.TemporaryDirectory() as room:
         laid_out(room)
@@ -177,6 +214,20 @@ def uncited(tests):
         tests.compare("the same, of all", "", [short[0], short[3]], alone.splitlines())
 
 
+def equal(tests):
+    with tempfile.TemporaryDirectory() as room:
+        for path, text in PROOFS:
+            path = os.path.join(room, "crates", path)
+            os.makedirs(os.path.dirname(path), exist_ok=True)
+            with open(path, "w", encoding="utf-8") as file:
+                file.write(text)
+        words = [sys.executable, os.path.join(SCRIPTS, "equal_statements.py"), room]
+        done = subprocess.run(words, capture_output=True, text=True)
+        tests.compare("statements that stand twice", "", EQUAL, done.stdout)
+        done = subprocess.run(words[:2], cwd=room, capture_output=True, text=True)
+        tests.compare("the same, of this folder", "", EQUAL, done.stdout)
+
+
 def check(tests):
-    for part in (clauses, revisions, uncited):
+    for part in (clauses, revisions, public, uncited, equal):
         part(tests)

@@ -97,6 +97,18 @@ def built_instead(tests):
         tests.compare("and so if times are others", "", wanted, launcher.call(room))
 
 
+def built_of_others(tests):
+    """A program that was built of other sources doesn't keep dist/ from being taken."""
+    with tempfile.TemporaryDirectory() as room:
+        launcher.repository(room)
+        launcher.call(room)
+        launcher.change(room, "low")
+        put_dist(room)
+        wanted = 0, "released\n", []
+        status, output, _, built = launcher.call(room)
+        tests.compare("dist/ beside an older build", "", wanted, (status, output, built))
+
+
 def other_sources(tests):
     """A release of other sources isn't taken, also if it was before."""
     for path, text in (
@@ -207,7 +219,7 @@ def clone(tests):
 
 def check(tests):
     """All of it, as a part of the whole run of tests."""
-    for part in (taken, built_instead, other_sources, damaged, package, clone):
+    for part in (taken, built_instead, built_of_others, other_sources, damaged, package, clone):
         try:
             part(tests)
         except Skipped as told:

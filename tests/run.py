@@ -38,6 +38,7 @@ import release
 import special
 import tables
 import timed_parts
+import written_pages
 
 HERE = os.path.dirname(os.path.abspath(__file__))
 USAGE = "s USAGE\n"
@@ -683,6 +684,7 @@ for part in (
 ):
     part(TESTS)
 pages.check(TESTS)
+written_pages.check(TESTS)
 clause_tools.check(TESTS)
 plain_program.check(TESTS)
 process_ends.check(PROGRAM, TESTS)

@@ -3,6 +3,8 @@ one names is there, wheel and Debian package have the same, and the contracts ha
 the calls that they are about."""
 import os
 import re
+import subprocess
+import sys
 import tempfile
 import zipfile
 
@@ -23,8 +25,18 @@ DEFINED = (
     "TellsSolving",
     "pub trait Source",
     "pub enum Kind",
-    "VERTEX_LIMIT",
+    "pub const VERTEX_LIMIT",
 )
+
+#: A file on the page of contracts, with what it shows of it; and what that page counts.
+SECTION = re.compile(r"^### (crates/\S+)\n\n```\n(.*?)\n```\n", re.M | re.S)
+COUNTS = re.compile(r"(\d+)\s+definitions and (\d+) types and constants")
+#: A page, the files that it links, and the pages that it names.
+PAGE = """[a](FORMAT.md#top), [b](https://example.org/A.md), [c](../README.md), [d](#here)
+![e](pictures/tour.svg), `FORMAT.md`, docs/C.md, NO_SUCH.md and `CHANGELOG.md`.
+"""
+LINKED = ["docs/FORMAT.md", "README.md", "docs/pictures/tour.svg"]
+NAMED = {"docs/FORMAT.md", "README.md", "docs/C.md", "CHANGELOG.md"}
 
 
 def pages(folder):
@@ -45,6 +57,23 @@ def broken(folder, path, text):
             yield name
 
 
+def referred_files(tests):
+    """What a page refers to, by links and by names, and what scripts/release_pages.py lists."""
+    of = script("release_pages")
+    got = list(of.links("docs/A.md", PAGE)), set(of.named("docs/A.md", PAGE))
+    tests.compare("what a page links and names", PAGE, (LINKED, NAMED), got)
+    beside = list(of.named("capi/A.md", "README.md"))
+    tests.compare("a page beside one of its name", b"", ["capi/README.md"], beside)
+    of.read = lambda path: PAGE.encode()
+    tests.compare("what a page refers to", PAGE, NAMED | set(LINKED), of.referred("docs/A.md"))
+    words = [sys.executable, os.path.join(TOP, "scripts", "release_pages.py")]
+    done = subprocess.run(words, capture_output=True, text=True)
+    listed = done.returncode, set(LINKED) <= set(done.stdout.splitlines())
+    tests.compare("the pages of a release are listed", b"", (0, True), listed)
+    done = subprocess.run([*words, "docs"], capture_output=True)
+    tests.compare("an argument of release_pages.py", b"", 2, done.returncode)
+
+
 def contracts(text, tests):
     """The page of contracts has the head of each call, each clause and what a reader looks for."""
     for name, path in CALLS.items():
@@ -56,8 +85,27 @@ def contracts(text, tests):
     tests.compare("definitions that the contracts lack", b"", [], missing)
 
 
+def definitions(text, tests):
+    """Each piece of a file on the page stands so in the file, and there are as many definitions and
+    types as the page says."""
+    starts = {".antt": script("uncited_definitions").DEFINITION, ".rt": script("contracts").TYPE}
+    heads, strange = dict.fromkeys(starts, 0), []
+    for path, shown in SECTION.findall(text):
+        source, ending = bytes_of(os.path.join(TOP, path)).decode(), os.path.splitext(path)[1]
+        strange += [piece for piece in shown.split("\n\n") if piece not in source]
+        found = [line for line in shown.split("\n") if starts[ending].match(line)]
+        heads[ending] += len(found)
+        comments = (re.search(r"(?:^--.*\n)+(?=%s$)" % re.escape(line), source, re.M) for line in found)
+        strange += [one[0] for one in comments if one and one[0] not in shown]
+    told = COUNTS.search(text)
+    tests.compare("pieces of contracts that no file has", b"", [], strange)
+    wanted = {".antt": int(told[1]), ".rt": int(told[2])}
+    tests.compare("definitions and types of the contracts", b"", wanted, heads)
+
+
 def shipped_pages(program, release, tests):
     """All of it."""
+    referred_files(tests)
     with tempfile.TemporaryDirectory() as room:
         home = os.path.join(release.unpacked(room), HOME)
         found = pages(home)
@@ -70,6 +118,7 @@ def shipped_pages(program, release, tests):
         named = set(re.findall(r"`((?:docs/)?[A-Z]+\.md)`", front))
         tests.compare("pages that the tarball's page names in vain", b"", set(), named - set(found))
         contracts(found["CONTRACTS.md"].decode(), tests)
+        definitions(found["CONTRACTS.md"].decode(), tests)
         with zipfile.ZipFile(release.wheel) as wheel:
             inside = {
                 name.partition(HOME)[2]: wheel.read(name)

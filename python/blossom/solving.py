@@ -50,7 +50,7 @@ def instance_of(graph: Union[Graph, Instance], kind: Kind, how: Dict[str, Any]) 
 
 def is_usual(value: Any, usual: Any) -> bool:
     """Whether an argument is what it is if nothing is passed."""
-    return value is usual or type(value) is type(usual) and bool(value == usual)
+    return type(value) is type(usual) and bool(value == usual)
 
 
 @old_keywords("via", "brief", "values")

@@ -1,5 +1,15 @@
-/* In place of the library: it is of version VERSION, and each of its calls ends with STATUS. */
+/* In place of the library: it is of version VERSION, and each of its calls ends with STATUS and
+ * without an answer. With -Dmalloc=no_memory there is no memory. */
 #include "blossom.h"
+
+#include <stdlib.h>
+
+#ifdef malloc
+void *no_memory(size_t size) {
+    (void)size;
+    return NULL;
+}
+#endif
 
 uint32_t blossom_abi(void) { return VERSION; }
 

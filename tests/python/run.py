@@ -4,7 +4,8 @@ names, or the one that is built in this checkout; where there is none it ends at
 call would begin to build it. Prints each failure and each test that is skipped, with the reason;
 the last line is 'N passed, M failed, K skipped'; the status is 1 if a test failed or none ran.
 
-Usage: run.py [NAME ..], as `run.py test_decoder`: the modules to run, all without names."""
+Usage: run.py [--failfast] [NAME ..], as `run.py test_decoder`: the modules to run, all without
+names. With --failfast it ends after the first failure."""
 import glob
 import os
 import sys
@@ -52,10 +53,12 @@ def program():
 
 def main(names):
     os.environ["BLOSSOM"] = program()
+    outcome = Outcome()
+    outcome.failfast = names[:1] == ["--failfast"]
+    names = names[1:] if outcome.failfast else names
     names = names or sorted(
         os.path.basename(path)[:-3] for path in glob.glob(os.path.join(HERE, "test_*.py"))
     )
-    outcome = Outcome()
     unittest.defaultTestLoader.loadTestsFromNames(names).run(outcome)
     for test, trace in outcome.failures_of_all():
         print("FAILED %s\n%s" % (test.id(), trace))

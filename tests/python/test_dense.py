@@ -369,6 +369,9 @@ class BadInput(Dense):
         self.refused(blossom.WeightError, "the coordinates aren't integers, so distances aren't",
                      points=[[0, 0], [0.5, 1]], metric="manhattan")
         self.refused(blossom.WeightError, "over 10.12", points=[[0, 0], [1, 1]], scale=10**12)
+        far = [[-(10**11), 0], [8 * 10**11, 0]]  # (within the limit, and far from nought)
+        answer = blossom.min_weight_perfect_matching(points=far, scale=1)
+        self.assertEqual(answer.weight, 9 * 10**11)
         self.refused(blossom.Infeasible, "odd, 3", points=[[0, 0], [1, 1], [2, 2]])
         self.refused(LimitExceeded, "4097", points=numpy.zeros((4097, 2)))
 

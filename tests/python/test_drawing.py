@@ -183,6 +183,13 @@ class Pictures(unittest.TestCase):
                 if isinstance(shape, Disc) and shape.fill == "#c8374a"
             ]
             self.assertEqual(len(red), len([name for name in names if ":" in name]))
+            # (with a side a name is too long for its node, and then all are beside theirs)
+            within = [
+                shape.words
+                for shape in picture.sheet.shapes
+                if isinstance(shape, Text) and shape.bold
+            ]
+            self.assertEqual(set(within), set() if red else names)
         self.assertIn(
             "No answer: the barrier in red shows it",
             blossom.Certificate(of, b"s INFEASIBLE oddpath\nu 1 2\n").draw().svg(),

@@ -153,6 +153,12 @@ class Limits(unittest.TestCase):
             "graph too large: 4097 nodes, 9 edges; the limits are 4096 and 65536",
         )
 
+    def test_answers_are_as_networkx_has_them(self):
+        from blossom.networkx_backend import convert_to_nx
+
+        found = {("a", "b")}
+        self.assertIs(convert_to_nx(found, name="max_weight_matching"), found)
+
     def test_what_is_too_large_when_it_is_run_is_seen_by_networkx(self):
         from blossom.networkx_backend import TooLarge, within_limits
 

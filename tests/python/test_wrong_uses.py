@@ -26,6 +26,11 @@ class WrongUses(unittest.TestCase):
                     call(*words, **how)
                 self.assertIsInstance(told.exception, (blossom.BlossomError, TypeError))
 
+    def test_a_default_can_be_passed_with_an_instance(self):
+        of = blossom.Instance.from_graph([(1, 2, 3)], "match")
+        answer = blossom.max_weight_matching(of, scale=1, nodes=(), rounding=None)
+        self.assertEqual(answer.weight, 3)
+
     def test_what_is_raised(self):
         inner = [
             (os.path.basename(path), name)
