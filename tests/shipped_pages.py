@@ -95,7 +95,8 @@ def definitions(text, tests):
         strange += [piece for piece in shown.split("\n\n") if piece not in source]
         found = [line for line in shown.split("\n") if starts[ending].match(line)]
         heads[ending] += len(found)
-        comments = (re.search(r"(?:^--.*\n)+(?=%s$)" % re.escape(line), source, re.M) for line in found)
+        fronts = [r"(?:^--.*\n)+(?=%s$)" % re.escape(line) for line in found]
+        comments = [re.search(front, source, re.M) for front in fronts]
         strange += [one[0] for one in comments if one and one[0] not in shown]
     told = COUNTS.search(text)
     tests.compare("pieces of contracts that no file has", b"", [], strange)
