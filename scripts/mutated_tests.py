@@ -94,7 +94,7 @@ OF_SCRIPTS = (
     ("dist_program sources targets", TAKEN),
     ("dist_program", "dist_program.clone dist.stand_in"),
     ("docs figures kinds prose proof_names promises must_fail_page crate_groups", PAGES),
-    ("crate_pages gallery_page header_page proof_page python_page", PAGES),
+    ("crate_pages gallery_page header_page proof_page python_page wrong_bodies_page", PAGES),
     ("compare_clauses uncited_definitions equal_statements", CLAUSES),
     ("uncited_definitions", PAGES + " release.shipped_pages"),
     ("pictures", "python.test_package"),

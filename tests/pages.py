@@ -16,6 +16,7 @@ import must_fail_page  # noqa: E402
 import promises  # noqa: E402
 import proof_names  # noqa: E402
 import prose  # noqa: E402
+import wrong_bodies_page  # noqa: E402
 
 COMPLETED = """source packaging/blossom.bash
 COMP_WORDS=(blossom %s)
@@ -183,6 +184,15 @@ def planted_refusals(tests):
         tests.compare("must-fail edits, %s listed" % name, b"", wrong, found)
 
 
+def planted_verdicts(tests):
+    """The table of wrong bodies adds up, and has no verdict that scripts/mutants.py doesn't give."""
+    row = wrong_bodies_page.wrong_bodies_part("# told\nc 1a2b 2026-12-01 79 noticed=3 same=1\n")[-1]
+    wanted = "| c | `1a2b` | 2026-12-01 | 79 | 4 | 0 | 0 | 3 | 1 | 0 | 0 |"
+    tests.compare("a row of wrong bodies", b"", wanted, row)
+    found = is_refused(wrong_bodies_page.wrong_bodies_part, "c 1a2b 2026-12-01 79 noticd=3\n")
+    tests.compare("a verdict that nobody gives", b"", True, found)
+
+
 def planted_parts(tests):
     """A page without a row of its generated part is found, and so is a part that no script makes."""
     for path in sorted(docs.PARTS):
@@ -241,6 +251,7 @@ def check(tests):
     planted_promises(tests)
     planted_lengths(tests)
     planted_refusals(tests)
+    planted_verdicts(tests)
     planted_parts(tests)
     planted_prose(tests)
     manual(tests)
