@@ -5,8 +5,9 @@ Usage: dry_run.py kind [--own-gadget] [--prove CRATE ..] [--keep FOLDER]
 
 The dummy answers as `bmatch` does; with --own-gadget its certificate graph has a form of its own,
 built as that of `bmatch`. The compiler names each table in code that lacks a row, one at a time;
-the script plants the row and asks again. It then plants the rows of specs/ and proofs/, as copies
-of those of `bmatch`, and prints all files that it changed and their number, in some minutes.
+the script plants the row and compiles again. It then plants the rows of specs/ and proofs/, as
+copies of those of `bmatch`, and prints all files that it changed and their number. This takes
+about five minutes.
 
 With --prove it has the prover check these crates of the copy, lowest first: `mb_problem` takes five
 minutes with the crates below it, `kind_answers` three quarters of an hour. If they are proved,

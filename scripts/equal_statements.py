@@ -1,6 +1,6 @@
 #!/usr/bin/env python3
 """Lists the statements that two or more files of proofs/ have, up to the names of bound variables:
-each should stand once, in the lowest crate that can hold it.
+state each once, in the lowest crate that can hold it.
 
 Usage: equal_statements.py [TOP]. For each statement it prints the places, and then the type. The
 last line counts them and their spare copies."""
