@@ -163,7 +163,7 @@ fn enter_edge(search: &mut Search, near: &Near, incident: &IncidentEdge)
     }
 }
 
-/// What is at hand of a vertex whose outermost node and its label are known, in constant time.
+/// What is at hand of a vertex whose outermost node and its label are known.
 fn near_of(search: &Search, vertex: VertexId, node: NodeId, label: Label) -> Near
     requires sound { IsSound search.now }
     requires vertex { is_vertex search.now.graph.vertices vertex ≡ true }

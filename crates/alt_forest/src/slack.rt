@@ -126,7 +126,7 @@ fn duals_along(arena: &Arena, edge: &Edge) -> i128
 }
 
 /// The duals of the nodes that hold exactly one end of an edge, added up: where no blossom holds
-/// both ends, all that hold either, in constant time.
+/// both ends, all that hold either.
 fn duals_across(arena: &Arena, edge: &Edge) -> i128
     requires ends { IsEdgeWithin arena.now.vertex_count edge.now }
     requires plain { is_loop edge.now ≡ false }

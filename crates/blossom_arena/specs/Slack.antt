@@ -25,6 +25,10 @@ abbrev pub IsDualSum : ℤ → Type 0
 IsDualSum x = (neg_ℤ (NUMBER_LIMIT *ℤ pos GRAPH_VERTEX_LIMIT) ≤ℤ x)
     × (x ≤ℤ (NUMBER_LIMIT *ℤ pos GRAPH_VERTEX_LIMIT))
 
+-- a sum of duals that lies within twice the greatest number
+abbrev pub IsNearSum : ℤ → Type 0
+IsNearSum x = (neg_ℤ (pos 2 *ℤ NUMBER_LIMIT) ≤ℤ x) × (x ≤ℤ (pos 2 *ℤ NUMBER_LIMIT))
+
 -- the duals of the vertices 1 to n
 abbrev pub vertex_duals : ℕ → List ℤ → List ℤ
 vertex_duals n ys = take n (drop 1 ys)

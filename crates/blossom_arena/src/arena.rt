@@ -9,7 +9,7 @@ ghost use Rattle.blossom_arena.specs.Family.{raised, moving, dual_at, outermost,
 ghost use Rattle.blossom_arena.specs.Family.{ring_of, members_of, chain_of, names_of};
 ghost use Rattle.blossom_arena.specs.Changes.{gain, label_at, share};
 ghost use Rattle.blossom_arena.specs.declared.label.Label.TheVariants.{Out};
-ghost use Rattle.blossom_arena.specs.Slack.{IsDualSum, held_by};
+ghost use Rattle.blossom_arena.specs.Slack.{IsDualSum, IsNearSum, held_by};
 
 use crate::blossoms::Blossoms;
 use crate::chain::{Chain, child_below};
@@ -192,6 +192,21 @@ impl Arena {
         ensures good { IsFamily self.now }
     {
         self.partition.inner(v.number()) + i128::from(self.dual(self.outermost(v)))
+    }
+
+    /// The duals of all nodes that hold a vertex, added up, if the sum is known to fit. It takes
+    /// constant time.
+    pub fn near_sum(&self, vertex: VertexId) -> i64
+        requires vertex { is_vertex self.now.vertex_count vertex ≡ true }
+        requires near { IsNearSum (dual_at self.now.duals vertex
+            +ℤ held_by (dual_at self.now.duals) self.now.blossoms vertex) }
+
+        // The duals of all nodes that hold a vertex, added up.
+        ensures near_sum { result ≡ dual_at self.now.duals vertex
+            +ℤ held_by (dual_at self.now.duals) self.now.blossoms vertex }
+        ensures good { IsFamily self.now }
+    {
+        self.dual_sum(vertex) as i64
     }
 
     /// Adds d, in doubled units, to the dual of a node. The sum lies within 10^18, and is

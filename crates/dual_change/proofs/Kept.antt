@@ -1,11 +1,12 @@
 -- Bounds stay what they are while the clock moves along with a change of the duals.
 use Rattle.alt_forest.proofs.Common.{◌≡◌, ℕ, ◌≤◌, ℤ, pos, ◌+ℤ◌, ◌-ℤ◌, ◌≤ℤ◌, true, [], refl, sym, ap, ◌∙◌, subst, arith, inr, ints, NUMBER_LIMIT}
-use Rattle.alt_forest.proofs.Common.{Multigraph, holds, is_vertex, names_of, outermost, Label, Outer, Out, moment_of, State, dual_sum, IsBlossomEntered, IsSound, state_of, nested_of}
+use Rattle.alt_forest.proofs.Common.{Multigraph, holds, is_vertex, names_of, outermost, Label, Outer, Inner, Out, moment_of, State, dual_sum, IsBlossomEntered, IsSound, state_of, nested_of}
 use Rattle.alt_forest.specs.declared.search.Search.{Search}
 use Rattle.event_bounds.specs.declared.bounds.EventBounds.{EventBounds}
-use Rattle.event_bounds.specs.Bounds.{HasHints, IsBounding, reach}
+use Rattle.event_bounds.specs.Bounds.{HasHints, HasNearSums, IsBounding, reach}
 use Rattle.event_bounds.specs.Looks.{stale_ends}
 use Rattle.event_bounds.proofs.Kept.{IsKept, bounding_still}
+use Rattle.event_bounds.proofs.Near.{near_later}
 use Rattle.event_bounds.proofs.Stale.{KeepsOuter, stale_kept}
 use Rattle.dual_change.specs.Changes.{applied, share}
 use Rattle.dual_change.proofs.Applied.{dual_sum_grows}
@@ -20,6 +21,12 @@ as_far clock d x y z e f = omega (arith, ints)
 
 both_least : (x y : ℕ) → x ≤ y → y ≤ x → x ≡ y
 both_least x y p q = omega (arith, p, q)
+
+-- a change of d moves no sum farther than by d
+moved : (x y d : ℤ) (l : Label) → pos 0 ≤ℤ d → x ≡ y +ℤ share d l → ((y -ℤ d) ≤ℤ x) × (x ≤ℤ (y +ℤ d))
+moved x y d Outer low is = (omega (arith, ints, low, is), omega (arith, ints, low, is))
+moved x y d Inner low is = (omega (arith, ints, low, is), omega (arith, ints, low, is))
+moved x y d Out low is = (omega (arith, ints, low, is), omega (arith, ints, low, is))
 
 -- the search t is s after a change of d
 module _ (s t : Search) (d : ℤ) (sound : IsSound s) (rest : t ≡ raised s t.arena.duals (s.clock +ℤ d)) (state : state_of t ≡ applied (state_of s) d) where
@@ -49,9 +56,13 @@ module _ (s t : Search) (d : ℤ) (sound : IsSound s) (rest : t ≡ raised s t.a
     apart = λ u there lab ne same. ne (node_now u ∙ same ∙ sym (node_now v));
   }
 
+  near_now : HasNearSums (state_of s) s.clock → pos 0 ≤ℤ d → HasNearSums (state_of t) t.clock
+  near_now h low = near_later (state_of s) (state_of t) s.clock t.clock d (ap (λ (u : Search). u.graph) rest) clock_now
+      (λ v is. let l : Label = (state_of s).label (outermost s.arena.blossoms v) in moved (dual_sum (state_of t) v) (dual_sum (state_of s) v) d l low (sum_now v l is refl)) h
+
   pub bounding_later : (b : EventBounds) → IsBounding s b → pos 0 ≤ℤ d → (s.clock +ℤ d) ≤ℤ NUMBER_LIMIT → IsBounding t b
   bounding_later b h low high = bounding_still s t b [] sound.shape h (ap (λ (u : Search). u.graph) rest) (ap (λ (u : Search). u.weights) rest)
-      (let start : pos 0 ≤ℤ s.clock = h.low in omega (arith, ints, start, low, clock_now)) (subst (λ (x : ℤ). x ≤ℤ NUMBER_LIMIT) (sym clock_now) high)
+      (let start : pos 0 ≤ℤ s.clock = h.low in omega (arith, ints, start, low, clock_now)) (subst (λ (x : ℤ). x ≤ℤ NUMBER_LIMIT) (sym clock_now) high) (near_now h.near low)
       (λ v is none. kept_now v is)
       (λ a name. subst (λ (x : State). IsBlossomEntered x t.clock b.moments a) (sym state) (subst (λ (x : ℤ). IsBlossomEntered (applied (state_of s) d) x b.moments a) (sym clock_now)
       (blossom_later (state_of s) sound.depth sound.shape.graph.graph (nested_of s sound.shape) s.clock d b.moments a

@@ -31,7 +31,8 @@ fn earliest(bounds: &mut EventBounds) -> Option<(Item, i128)>
     ensures least { IsLeast bounds.old.moments result }
     ensures same { bounds.new ≡ bounds.old }
 {
-    bounds.moments.least()
+    let (item, moment) = bounds.moments.least()?;
+    Some((item, i128::from(moment)))
 }
 
 /// Takes the moment of a node away on which nothing rests.

@@ -52,7 +52,7 @@ pub record IsGathering (b : Buckets) (list : ℕ) (least : ℤ) (moved : ℕ) : 
   pub ends : AreEnds b.ends.items
   pub bucket : IsInBucket b.ends.items (list - 1) least
   pub fits : (s l : ℕ) → home s ≡ Some l
-      → ((l ≡ 130) × (least ≤ℤ kept_moment b s) × IsInBucket b.ends.items (list - 1) (kept_moment b s)) ⊎ ((list ≤ l) × IsInBucket b.ends.items (l - 1) (kept_moment b s))
+      → ((l ≡ 66) × (least ≤ℤ kept_moment b s) × IsInBucket b.ends.items (list - 1) (kept_moment b s)) ⊎ ((list ≤ l) × IsInBucket b.ends.items (l - 1) (kept_moment b s))
   pub there : ℕ
   pub within : there < b.slots
   pub some : is_some (home there) ≡ true
@@ -80,10 +80,10 @@ gather_starts b f list slot least low none is = record {
   few = omega (arith, count_most f.home list b.slots);
 }
 
-module _ (b c : Buckets) (list : ℕ) (least m : ℤ) (moved x : ℕ) (g : IsGathering b list least moved) (high : list < 130) (rest : c ≡ record b { lists = c.lists })
+module _ (b c : Buckets) (list : ℕ) (least m : ℤ) (moved x : ℕ) (g : IsGathering b list least moved) (high : list < 66) (rest : c ≡ record b { lists = c.lists })
     (on : g.home x ≡ Some list) where
   own : IsInBucket b.ends.items (list - 1) (kept_moment b x)
-  own = ⊎_elim (λ (w : (list ≡ 130) × (least ≤ℤ kept_moment b x) × IsInBucket b.ends.items (list - 1) (kept_moment b x)). w.2) (λ (w : (list ≤ list) × IsInBucket b.ends.items (list - 1) (kept_moment b x)). w.1)
+  own = ⊎_elim (λ (w : (list ≡ 66) × (least ≤ℤ kept_moment b x) × IsInBucket b.ends.items (list - 1) (kept_moment b x)). w.2) (λ (w : (list ≤ list) × IsInBucket b.ends.items (list - 1) (kept_moment b x)). w.1)
       (g.fits x list on)
 
   kept : (s : ℕ) → kept_moment c s ≡ kept_moment b s
@@ -95,29 +95,29 @@ module _ (b c : Buckets) (list : ℕ) (least m : ℤ) (moved x : ℕ) (g : IsGat
   ends : c.ends.items ≡ b.ends.items
   ends = ap (λ (y : Buckets). y.ends.items) rest
 
-  pub gather_steps : IsHomed c (put g.home x (Some 130)) → m ≤ℤ least → m ≤ℤ kept_moment b x → (m ≡ least) ⊎ (m ≡ kept_moment b x) → IsGathering c list m (moved + 1)
+  pub gather_steps : IsHomed c (put g.home x (Some 66)) → m ≤ℤ least → m ≤ℤ kept_moment b x → (m ≡ least) ⊎ (m ≡ kept_moment b x) → IsGathering c list m (moved + 1)
   gather_steps h low down which =
       let first : (r : ℕ) × (is_some (g.home r) ≡ true) × (kept_moment b r ≡ m) = ⊎_elim
       (λ (e : m ≡ least). (g.there, g.some, g.moment ∙ sym e))
       (λ (e : m ≡ kept_moment b x). (x, some_is g.home x list on, sym e)) which in
       record {
-        home = put g.home x (Some 130);
+        home = put g.home x (Some 66);
         homed = h;
         ends = rw ends g.ends;
         bucket = rw ends (⊎_elim (λ (e : m ≡ least). rw e g.bucket) (λ (e : m ≡ kept_moment b x). rw e own) which);
         fits = λ s l. rw (ends, kept s) (put_both (λ (o : Option ℕ). o ≡ Some l
-            → ((l ≡ 130) × (m ≤ℤ kept_moment b s) × IsInBucket b.ends.items (list - 1) (kept_moment b s)) ⊎ ((list ≤ l) × IsInBucket b.ends.items (l - 1) (kept_moment b s)))
-            g.home x (Some 130) s
-            (λ e is. inl ((let q : l ≡ 130 = cc in q), rw e down, rw e own))
+            → ((l ≡ 66) × (m ≤ℤ kept_moment b s) × IsInBucket b.ends.items (list - 1) (kept_moment b s)) ⊎ ((list ≤ l) × IsInBucket b.ends.items (l - 1) (kept_moment b s)))
+            g.home x (Some 66) s
+            (λ e is. inl ((let q : l ≡ 66 = cc in q), rw e down, rw e own))
             (λ ne is. ⊎_elim
-            (λ (w : (l ≡ 130) × (least ≤ℤ kept_moment b s) × IsInBucket b.ends.items (list - 1) (kept_moment b s)). inl (w.0, omega (arith, ints, low, w.1), w.2))
+            (λ (w : (l ≡ 66) × (least ≤ℤ kept_moment b s) × IsInBucket b.ends.items (list - 1) (kept_moment b s)). inl (w.0, omega (arith, ints, low, w.1), w.2))
             (λ (w : (list ≤ l) × IsInBucket b.ends.items (l - 1) (kept_moment b s)). inr w)
             (g.fits s l is)));
         there = first.0;
         within = omega (arith, slots, home_within b g.home g.homed first.0 first.1);
-        some = put_both (λ (o : Option ℕ). is_some o ≡ true) g.home x (Some 130) first.0 (λ _. refl) (λ _. first.1);
+        some = put_both (λ (o : Option ℕ). is_some o ≡ true) g.home x (Some 66) first.0 (λ _. refl) (λ _. first.1);
         moment = kept first.0 ∙ first.2;
-        few = rw slots (omega (arith, g.few, count_less g.home list x 130 b.slots on (λ e. absurd (omega (arith, e, high))) (g.homed.within x list on)));
+        few = rw slots (omega (arith, g.few, count_less g.home list x 66 b.slots on (λ e. absurd (omega (arith, e, high))) (g.homed.within x list on)));
       }
 
 pub gather_ends : (b : Buckets) (list : ℕ) (least : ℤ) (moved : ℕ) (g : IsGathering b list least moved) → ((s : ℕ) → g.home s ≢ Some list) → IsGathered b list least
@@ -127,7 +127,7 @@ gather_ends b list least moved g none = record {
   ends = g.ends;
   bucket = g.bucket;
   fits = λ s l e. ⊎_elim
-      (λ (w : (l ≡ 130) × (least ≤ℤ kept_moment b s) × IsInBucket b.ends.items (list - 1) (kept_moment b s)). inl w)
+      (λ (w : (l ≡ 66) × (least ≤ℤ kept_moment b s) × IsInBucket b.ends.items (list - 1) (kept_moment b s)). inl w)
       (λ (w : (list ≤ l) × IsInBucket b.ends.items (l - 1) (kept_moment b s)).
       inr (⊎_elim (λ (same : l ≡ list). absurd (none s (e ∙ ap (λ k. let o : Option ℕ = Some k in o) same))) (λ (ne : l ≢ list). let past : list < l = omega (arith, ne, w.0) in past) (cases_eq l list), w.1))
       (g.fits s l e);
@@ -145,7 +145,7 @@ pub homed_ends : (b c : Buckets) (home : ℕ → Option ℕ) → c ≡ record b 
 homed_ends b c home rest h = rw rest (record { moments = h.moments; early = h.early; links = h.links; within = h.within; owned = h.owned })
 
 -- with spread ends the slots that wait come after the first end
-pub refile_starts : (b c : Buckets) (list : ℕ) (least : ℤ) → c ≡ record b { ends = c.ends } → 2 ≤ list → list < 130 → IsGathered b list least
+pub refile_starts : (b c : Buckets) (list : ℕ) (least : ℤ) → c ≡ record b { ends = c.ends } → 2 ≤ list → list < 66 → IsGathered b list least
     → IsSpread b.ends.items c.ends.items least (list - 1) → IsRefiling c 0
 refile_starts b c list least rest low high g s =
     let slots : c.slots ≡ b.slots = ap (λ (y : Buckets). y.slots) rest in
@@ -154,9 +154,9 @@ refile_starts b c list least rest low high g s =
       home = g.home;
       homed = homed_ends b c g.home rest g.homed;
       ends = s.ends;
-      few = omega (arith, count_most g.home 130 c.slots);
+      few = omega (arith, count_most g.home 66 c.slots);
       fits = λ x l e. ⊎_elim
-          (λ (w : (l ≡ 130) × (least ≤ℤ kept_moment b x) × IsInBucket b.ends.items (list - 1) (kept_moment b x)). inl (w.0, omega (arith, ints, s.first, kept x, w.1)))
+          (λ (w : (l ≡ 66) × (least ≤ℤ kept_moment b x) × IsInBucket b.ends.items (list - 1) (kept_moment b x)). inl (w.0, omega (arith, ints, s.first, kept x, w.1)))
           (λ (w : (list < l) × IsInBucket b.ends.items (l - 1) (kept_moment b x)).
           let within = w.1.within in let below : (end_at b.ends.items (l - 1 - 1) +ℤ pos 1) ≤ℤ kept_moment b x = w.1.low (omega (arith, low, w.0)) in
           inr (rw (kept x) (record {
@@ -168,7 +168,7 @@ refile_starts b c list least rest low high g s =
           (g.fits x l e);
     }
 
-module _ (b c : Buckets) (moved x list : ℕ) (r : IsRefiling b moved) (rest : c ≡ record b { lists = c.lists }) (on : r.home x ≡ Some 130) where
+module _ (b c : Buckets) (moved x list : ℕ) (r : IsRefiling b moved) (rest : c ≡ record b { lists = c.lists }) (on : r.home x ≡ Some 66) where
   pub refile_steps : IsInBucket b.ends.items (list - 1) (kept_moment b x) → IsHomed c (put r.home x (Some list)) → IsRefiling c (moved + 1)
   refile_steps i h =
       let slots : c.slots ≡ b.slots = ap (λ (y : Buckets). y.slots) rest in
@@ -177,24 +177,24 @@ module _ (b c : Buckets) (moved x list : ℕ) (r : IsRefiling b moved) (rest : c
         home = put r.home x (Some list);
         homed = h;
         ends = rw ends r.ends;
-        few = rw slots (omega (arith, r.few, count_less r.home 130 x list b.slots on (λ e. absurd (omega (arith, e, i.within))) (r.homed.within x 130 on)));
+        few = rw slots (omega (arith, r.few, count_less r.home 66 x list b.slots on (λ e. absurd (omega (arith, e, i.within))) (r.homed.within x 66 on)));
         fits = λ s l. rw (ends, kept_lists b c rest s) (put_both (λ (o : Option ℕ). o ≡ Some l
-            → ((l ≡ 130) × (end_at b.ends.items 0 ≤ℤ kept_moment b s)) ⊎ IsInBucket b.ends.items (l - 1) (kept_moment b s)) r.home x (Some list) s
+            → ((l ≡ 66) × (end_at b.ends.items 0 ≤ℤ kept_moment b s)) ⊎ IsInBucket b.ends.items (l - 1) (kept_moment b s)) r.home x (Some list) s
             (λ e is. inr (let q : list ≡ l = cc in rw (e, sym q) i))
             (λ ne is. r.fits s l is));
       }
 
 -- what waits comes after the first end
-pub waits_after : (b : Buckets) (moved x : ℕ) (r : IsRefiling b moved) → r.home x ≡ Some 130 → end_at b.ends.items 0 ≤ℤ kept_moment b x
-waits_after b moved x r on = ⊎_elim (λ (w : (130 ≡ 130) × (end_at b.ends.items 0 ≤ℤ kept_moment b x)). w.1) (λ (w : IsInBucket b.ends.items (130 - 1) (kept_moment b x)). w.least) (r.fits x 130 on)
+pub waits_after : (b : Buckets) (moved x : ℕ) (r : IsRefiling b moved) → r.home x ≡ Some 66 → end_at b.ends.items 0 ≤ℤ kept_moment b x
+waits_after b moved x r on = ⊎_elim (λ (w : (66 ≡ 66) × (end_at b.ends.items 0 ≤ℤ kept_moment b x)). w.1) (λ (w : IsInBucket b.ends.items (66 - 1) (kept_moment b x)). w.least) (r.fits x 66 on)
 
-pub refile_ends : (b : Buckets) (moved : ℕ) (r : IsRefiling b moved) → ((s : ℕ) → r.home s ≢ Some 130) → IsFiled b
+pub refile_ends : (b : Buckets) (moved : ℕ) (r : IsRefiling b moved) → ((s : ℕ) → r.home s ≢ Some 66) → IsFiled b
 refile_ends b moved r none = record {
   home = r.home;
   homed = r.homed;
   ends = r.ends;
   fits = λ s l e. ⊎_elim
-      (λ (w : (l ≡ 130) × (end_at b.ends.items 0 ≤ℤ kept_moment b s)). absurd (none s (e ∙ ap (λ k. let o : Option ℕ = Some k in o) w.0)))
+      (λ (w : (l ≡ 66) × (end_at b.ends.items 0 ≤ℤ kept_moment b s)). absurd (none s (e ∙ ap (λ k. let o : Option ℕ = Some k in o) w.0)))
       (λ (w : IsInBucket b.ends.items (l - 1) (kept_moment b s)). w)
       (r.fits s l e);
 }
@@ -213,7 +213,7 @@ gathered_found b c list least g slots same first =
     )
 
 -- where neither the first bucket nor a list past it has a slot, none has a moment
-pub none_has : (b : Buckets) (f : IsFiled b) → ((s : ℕ) → IsFound b s → ⊥) → ((s l : ℕ) → 2 ≤ l → l < 130 → f.home s ≢ Some l) → (s : ℕ) (m : ℤ) → get_or (moments_of b) s None ≡ Some m → ⊥
+pub none_has : (b : Buckets) (f : IsFiled b) → ((s : ℕ) → IsFound b s → ⊥) → ((s l : ℕ) → 2 ≤ l → l < 66 → f.home s ≢ Some l) → (s : ℕ) (m : ℤ) → get_or (moments_of b) s None ≡ Some m → ⊥
 none_has b f none past s m is =
     let low = slot_within b s m is in
     let r = home_of b f.home s m f.homed low (sym (moment_of_slot b s low) ∙ is) in

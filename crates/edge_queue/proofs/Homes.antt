@@ -83,7 +83,7 @@ pub kept_lists : (b c : Buckets) → c ≡ record b { lists = c.lists } → (s :
 kept_lists b c rest s = ap (λ (x : Buckets). kept_moment x s) rest
 
 -- a slot taken off its list, and one put on a list
-pub homed_without : (b c : Buckets) (x : ℕ) → c ≡ record b { lists = c.lists } → HasLinks c.lists (b.slots + 131)
+pub homed_without : (b c : Buckets) (x : ℕ) → c ≡ record b { lists = c.lists } → HasLinks c.lists (b.slots + 67)
     → link_at c.lists.next.items ≡ links_without (link_at b.lists.next.items) (link_at b.lists.previous.items) x
     → link_at c.lists.previous.items ≡ links_without (link_at b.lists.previous.items) (link_at b.lists.next.items) x → (home : ℕ → Option ℕ) → IsHomed b home
     → is_some (home x) ≡ true → IsHomed c (put home x None)
@@ -99,7 +99,7 @@ homed_without b c x rest links nexts previouses home h some =
       owned = rw (slots, nexts, previouses) owned;
     }
 
-pub homed_with : (b c : Buckets) (x list place : ℕ) → c ≡ record b { lists = c.lists } → HasLinks c.lists (b.slots + 131) → x < b.slots → place ≡ b.slots + list
+pub homed_with : (b c : Buckets) (x list place : ℕ) → c ≡ record b { lists = c.lists } → HasLinks c.lists (b.slots + 67) → x < b.slots → place ≡ b.slots + list
     → link_at c.lists.next.items ≡ next_with (link_at b.lists.next.items) place x
     → link_at c.lists.previous.items ≡ previous_with (link_at b.lists.next.items) (link_at b.lists.previous.items) place x
     → (home : ℕ → Option ℕ) → IsHomed b home → home x ≡ None → IsHomed c (put home x (Some list))

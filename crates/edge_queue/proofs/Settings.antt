@@ -167,7 +167,7 @@ lower_ends b c last m count w all rest items low =
             (λ (z : k ≡ 0). let y : j ≡ 0 = omega (arith, a, z) in rw (y, z) (omega (arith, ints)))
             (λ (nz : k ≢ 0). omega (arith, ints, down j, past k (omega (arith, nz)), w.ends.rising j k a d))
             (cases_eq k 0);
-        top = past 128 (omega arith) ∙ w.ends.top;
+        top = past 64 (omega arith) ∙ w.ends.top;
       };
       fits = λ s l e. rw (kept s) (⊎_elim
           (λ (r : (l ≡ 2) × (kept_moment b s ≡ last)).
@@ -194,7 +194,7 @@ lower_ends b c last m count w all rest items low =
 pub alone_moment : (b : Buckets) (s : ℕ) → link_at b.lists.next.items s ≡ s → moment_at b s ≡ None
 alone_moment b s alone = grind (arith, nat_tests, alone)
 
-pub alone_filed : (b : Buckets) → vec_len b.moments ≡ b.slots → vec_len b.early ≡ b.slots → HasLinks b.lists (b.slots + 131) → ((a : ℕ) → link_at b.lists.next.items a ≡ a)
+pub alone_filed : (b : Buckets) → vec_len b.moments ≡ b.slots → vec_len b.early ≡ b.slots → HasLinks b.lists (b.slots + 67) → ((a : ℕ) → link_at b.lists.next.items a ≡ a)
     → AreEnds b.ends.items → IsFiled b
 alone_filed b count count2 links alone ends =
     let none : ℕ → Option ℕ = λ s. None in

@@ -4,18 +4,18 @@ use Rattle.graph_theory.proofs.Common.{cases_lt, cases_eq, subst, get_or-set_sam
 use Rattle.edge_queue.specs.Rising.{AreEnds, IsInBucket, IsSpread, end_at}
 
 -- the ends as long as none is spread
-pub top_ends : AreEnds (replicate 129 (pos 170141183460469231731687303715884105727))
+pub top_ends : AreEnds (replicate 65 (pos 9223372036854775807))
 top_ends =
-    let at : (k : ℕ) → k < 129 → end_at (replicate 129 (pos 170141183460469231731687303715884105727)) k ≡ pos 170141183460469231731687303715884105727 = λ k low. get_or-replicate 129 k (pos 170141183460469231731687303715884105727) (pos 0) low in
+    let at : (k : ℕ) → k < 65 → end_at (replicate 65 (pos 9223372036854775807)) k ≡ pos 9223372036854775807 = λ k low. get_or-replicate 65 k (pos 9223372036854775807) (pos 0) low in
     record {
-      size = length-replicate 129 (pos 170141183460469231731687303715884105727);
+      size = length-replicate 65 (pos 9223372036854775807);
       rising = λ j k a b. omega (arith, ints, at j (omega (arith, a, b)), at k b);
-      top = at 128 (omega arith);
+      top = at 64 (omega arith);
     }
 
 -- the ends before bucket k are spread
 pub record IsSpreading (old new : List ℤ) (m : ℤ) (last k : ℕ) : Type 0 where
-  pub size : length new ≡ 129
+  pub size : length new ≡ 65
   pub first : end_at new 0 ≡ m
   pub rising : (i j : ℕ) → i ≤ j → j < k → end_at new i ≤ℤ end_at new j
   pub below : (i : ℕ) → i < k → end_at new i ≤ℤ end_at old last
@@ -32,7 +32,7 @@ spread_starts old m last e high =
       rest = λ i low. get_or-set_other old 0 i m (pos 0) (λ e. absurd (omega (arith, e, low)));
     }
 
-pub spread_steps : (old new : List ℤ) (m v : ℤ) (last k : ℕ) → IsSpreading old new m last k → 0 < k → k < last → last < 129 → end_at new (k - 1) ≤ℤ v → v ≤ℤ end_at new last
+pub spread_steps : (old new : List ℤ) (m v : ℤ) (last k : ℕ) → IsSpreading old new m last k → 0 < k → k < last → last < 65 → end_at new (k - 1) ≤ℤ v → v ≤ℤ end_at new last
     → IsSpreading old (set new k v) m last (k + 1)
 spread_steps old new m v last k s some low high above below =
     let own : end_at (set new k v) k ≡ v = get_or-set_same new k v (pos 0) (omega (arith, s.size, low, high)) in
@@ -52,7 +52,7 @@ spread_steps old new m v last k s some low high above below =
       rest = λ i b. other i (λ e. absurd (omega (arith, e, b))) ∙ s.rest i (omega (arith, b));
     }
 
-pub spread_ends : (old new : List ℤ) (m : ℤ) (last k : ℕ) → AreEnds old → IsSpreading old new m last k → k ≡ last → last < 129 → IsSpread old new m last
+pub spread_ends : (old new : List ℤ) (m : ℤ) (last k : ℕ) → AreEnds old → IsSpreading old new m last k → k ≡ last → last < 65 → IsSpread old new m last
 spread_ends old new m last k e s all high = record {
   ends = record {
     size = s.size;
@@ -63,14 +63,14 @@ spread_ends old new m last k e s all high = record {
         (λ (far : k ≤ i). omega (arith, ints, s.rest i far, s.rest j past, e.rising i j a b))
         (cases_lt i k))
         (cases_lt j k);
-    top = s.rest 128 (omega (arith, all, high)) ∙ e.top;
+    top = s.rest 64 (omega (arith, all, high)) ∙ e.top;
   };
   first = s.first;
   rest = λ i b. s.rest i (omega (arith, b, all));
 }
 
 -- a moment that lies between the ends of two buckets
-pub between : (ends : List ℤ) (k : ℕ) (m : ℤ) → AreEnds ends → 0 < k → k < 129 → (end_at ends (k - 1) +ℤ pos 1) ≤ℤ m → m ≤ℤ end_at ends k → IsInBucket ends k m
+pub between : (ends : List ℤ) (k : ℕ) (m : ℤ) → AreEnds ends → 0 < k → k < 65 → (end_at ends (k - 1) +ℤ pos 1) ≤ℤ m → m ≤ℤ end_at ends k → IsInBucket ends k m
 between ends k m e some within low high = record {
   within = within;
   least = omega (arith, ints, e.rising 0 (k - 1) (omega arith) (omega (arith, within)), low);

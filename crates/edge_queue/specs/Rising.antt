@@ -11,16 +11,16 @@ use Rattle.edge_queue.specs.declared.buckets.Buckets.{Buckets}
 abbrev pub end_at : List ℤ → ℕ → ℤ
 end_at ends k = slice_index_or ends k (pos 0)
 
--- the ends of 129 buckets, which rise up to the greatest number that there is
+-- the ends of 65 buckets, which rise up to the greatest number that there is
 pub record AreEnds (ends : List ℤ) : Type 0 where
-  pub size : length ends ≡ 129
-  pub rising : (j k : ℕ) → j ≤ k → k < 129 → end_at ends j ≤ℤ end_at ends k
-  pub top : end_at ends 128 ≡ pos 170141183460469231731687303715884105727
+  pub size : length ends ≡ 65
+  pub rising : (j k : ℕ) → j ≤ k → k < 65 → end_at ends j ≤ℤ end_at ends k
+  pub top : end_at ends 64 ≡ pos 9223372036854775807
 
 -- a moment that bucket k is for: the end itself in bucket 0, and in each other one what is above
 -- the end of the one before
 pub record IsInBucket (ends : List ℤ) (k : ℕ) (m : ℤ) : Type 0 where
-  pub within : k < 129
+  pub within : k < 65
   pub least : end_at ends 0 ≤ℤ m
   pub low : 0 < k → (end_at ends (k - 1) +ℤ pos 1) ≤ℤ m
   pub high : m ≤ℤ end_at ends k
@@ -47,7 +47,7 @@ moments_of b = map (moment_at b) (range_with_len 0 b.slots)
 pub record IsHomed (b : Buckets) (home : ℕ → Option ℕ) : Type 0 where
   pub moments : vec_len b.moments ≡ b.slots
   pub early : vec_len b.early ≡ b.slots
-  pub links : HasLinks b.lists (b.slots + 131)
+  pub links : HasLinks b.lists (b.slots + 67)
   pub within : (s l : ℕ) → home s ≡ Some l → s < b.slots
   pub owned : AreOwned b.slots home (link_at b.lists.next.items) (link_at b.lists.previous.items)
 
@@ -67,7 +67,7 @@ pub record IsFound (b : Buckets) (s : ℕ) : Type 0 where
 -- the first list past those of the first bucket on which there is a slot, and one that is on it
 pub record IsLowest (slots : ℕ) (home : ℕ → Option ℕ) (r : ℕ × ℕ) : Type 0 where
   pub low : 2 ≤ r.0
-  pub high : r.0 < 130
+  pub high : r.0 < 66
   pub within : r.1 < slots
   pub there : home r.1 ≡ Some r.0
   pub lowest : (s l : ℕ) → home s ≡ Some l → 2 ≤ l → r.0 ≤ l
@@ -81,9 +81,9 @@ one_on (Some l) list = if l == list then 1 else 0
 abbrev pub count_on : (ℕ → Option ℕ) → ℕ → ℕ → ℕ
 count_on home list n = sum_to (λ s. one_on (home s) list) n
 
--- the slots that were on this list wait on list 130, and the moment is the least of theirs
+-- the slots that were on this list wait on list 66, and the moment is the least of theirs
 abbrev pub IsGatheredAt : List ℤ → ℕ → ℤ → ℕ → ℤ → Type 0
-IsGatheredAt ends list least l m = ((l ≡ 130) × (least ≤ℤ m) × IsInBucket ends (list - 1) m)
+IsGatheredAt ends list least l m = ((l ≡ 66) × (least ≤ℤ m) × IsInBucket ends (list - 1) m)
     ⊎ ((list < l) × IsInBucket ends (l - 1) m)
 
 pub record IsGathered (b : Buckets) (list : ℕ) (least : ℤ) : Type 0 where
@@ -103,9 +103,9 @@ pub record IsRefiling (b : Buckets) (moved : ℕ) : Type 0 where
   pub home : ℕ → Option ℕ
   pub homed : IsHomed b home
   pub ends : AreEnds b.ends.items
-  pub few : count_on home 130 b.slots + moved ≤ b.slots
+  pub few : count_on home 66 b.slots + moved ≤ b.slots
   pub fits : (s l : ℕ) → home s ≡ Some l
-      → ((l ≡ 130) × (end_at b.ends.items 0 ≤ℤ kept_moment b s))
+      → ((l ≡ 66) × (end_at b.ends.items 0 ≤ℤ kept_moment b s))
       ⊎ IsInBucket b.ends.items (l - 1) (kept_moment b s)
 
 -- of the first slots so many have been taken out of the first bucket, which ends at `last`, into

@@ -11,7 +11,7 @@ use std::alloc::Global;
 
 /// How many lists there are: two for the first bucket, one for each other, and one for slots that
 /// wait.
-const LISTS: usize = 131;
+const LISTS: usize = 67;
 
 /// The moments of slots in buckets, and the end of each bucket. The first bucket is for its end
 /// alone, and has a list for the slots that are set early and one for the others; each other bucket
@@ -21,10 +21,10 @@ const LISTS: usize = 131;
 #[derive(Drop)]
 pub(crate) struct Buckets {
     pub(crate) slots: u32,
-    pub(crate) moments: Vec<i128>,
+    pub(crate) moments: Vec<i64>,
     pub(crate) early: Vec<bool>,
     pub(crate) lists: CircularLists,
-    pub(crate) ends: Vec<i128>,
+    pub(crate) ends: Vec<i64>,
 }
 
 impl Buckets {
@@ -33,7 +33,7 @@ impl Buckets {
         ensures filed { IfOk result IsFiled }
         ensures moments { IfOk result (λ b. moments_of b ≡ replicate slots None) }
     {
-        let moments = vec![in alloc; 0i128; slots as usize]?;
+        let moments = vec![in alloc; 0i64; slots as usize]?;
         let early = vec![in alloc; false; slots as usize]?;
         let lists = CircularLists::new(alloc, slots as usize + LISTS)?;
         let ends = first_ends(alloc)?;
@@ -48,7 +48,7 @@ impl Buckets {
 
     /// Whether a slot has a moment.
     pub(crate) fn is_listed(&self, slot: u32) -> bool
-        requires links { HasLinks self.now.lists (self.now.slots + 131) }
+        requires links { HasLinks self.now.lists (self.now.slots + 67) }
         requires slot { slot < self.now.slots }
         ensures { result ≡ is_some (moment_at self.now slot) }
     {
@@ -56,7 +56,7 @@ impl Buckets {
     }
 
     /// The moment of a slot.
-    pub(crate) fn moment(&self, slot: u32) -> Option<i128>
+    pub(crate) fn moment(&self, slot: u32) -> Option<i64>
         requires filed { IsFiled self.now }
         requires slot { slot < self.now.slots }
         ensures { result ≡ slice_index_or (moments_of self.now) slot None }
@@ -69,8 +69,8 @@ impl Buckets {
 
     /// The slot that came first of those on a list.
     pub(crate) fn oldest(&self, list: u32) -> Option<u32>
-        requires links { HasLinks self.now.lists (self.now.slots + 131) }
-        requires list { list < 131 }
+        requires links { HasLinks self.now.lists (self.now.slots + 67) }
+        requires list { list < 67 }
         ensures some { (home : ℕ → Option ℕ) → IsHomed self.now home
             → IfSome result (λ s. (s < self.now.slots) × (home s ≡ Some list)) }
         ensures none { (home : ℕ → Option ℕ) → IsHomed self.now home
@@ -85,9 +85,9 @@ impl Buckets {
 
     /// Takes a slot off its list.
     pub(crate) fn take(&mut self, slot: u32)
-        requires links { HasLinks self.old.lists (self.old.slots + 131) }
+        requires links { HasLinks self.old.lists (self.old.slots + 67) }
         requires slot { slot < self.old.slots }
-        ensures links { HasLinks self.new.lists (self.new.slots + 131) }
+        ensures links { HasLinks self.new.lists (self.new.slots + 67) }
         ensures homed { (home : ℕ → Option ℕ) → IsHomed self.old home
             → is_some (home slot) ≡ true → IsHomed self.new (put home slot None) }
         ensures alone { link_at self.new.lists.next.items slot ≡ slot }
@@ -98,11 +98,11 @@ impl Buckets {
 
     /// Puts a slot that is alone on a list.
     pub(crate) fn file(&mut self, slot: u32, list: u32)
-        requires links { HasLinks self.old.lists (self.old.slots + 131) }
+        requires links { HasLinks self.old.lists (self.old.slots + 67) }
         requires slot { slot < self.old.slots }
-        requires list { list < 131 }
+        requires list { list < 67 }
         requires alone { link_at self.old.lists.next.items slot ≡ slot }
-        ensures links { HasLinks self.new.lists (self.new.slots + 131) }
+        ensures links { HasLinks self.new.lists (self.new.slots + 67) }
         ensures homed { (home : ℕ → Option ℕ) → IsHomed self.old home → home slot ≡ None
             → IsHomed self.new (put home slot (Some list)) }
         ensures rest { self.new ≡ record self.old { lists = self.new.lists } }
@@ -112,10 +112,10 @@ impl Buckets {
 
     /// Puts a slot that is on a list on another one.
     pub(crate) fn shift(&mut self, slot: u32, list: u32)
-        requires links { HasLinks self.old.lists (self.old.slots + 131) }
+        requires links { HasLinks self.old.lists (self.old.slots + 67) }
         requires slot { slot < self.old.slots }
-        requires list { list < 131 }
-        ensures links { HasLinks self.new.lists (self.new.slots + 131) }
+        requires list { list < 67 }
+        ensures links { HasLinks self.new.lists (self.new.slots + 67) }
         ensures homed { (home : ℕ → Option ℕ) → IsHomed self.old home
             → is_some (home slot) ≡ true → IsHomed self.new (put home slot (Some list)) }
         ensures moments { (home : ℕ → Option ℕ) → IsHomed self.old home

@@ -14,10 +14,10 @@ const EARLY: u32 = 0;
 const LATE: u32 = 1;
 
 /// The list of slots that wait for their bucket, behind those of all buckets.
-const WAITING: u32 = 130;
+const WAITING: u32 = 66;
 
 /// The list on which a slot with this moment belongs.
-pub(crate) fn list_of(ends: &[i128], moment: i128, early: bool) -> u32
+pub(crate) fn list_of(ends: &[i64], moment: i64, early: bool) -> u32
     requires ends { AreEnds ends.now }
     requires low { end_at ends.now 0 ≤ℤ moment }
     ensures { IsInBucket ends.now (result - 1) moment }
@@ -33,7 +33,7 @@ pub(crate) fn list_of(ends: &[i128], moment: i128, early: bool) -> u32
 }
 
 /// The lesser of two moments.
-fn lesser(one: i128, other: i128) -> i128
+fn lesser(one: i64, other: i64) -> i64
     ensures one { result ≤ℤ one }
     ensures other { result ≤ℤ other }
     ensures either { (result ≡ one) ⊎ (result ≡ other) }
@@ -60,11 +60,11 @@ impl Buckets {
     /// The first list past those of the first bucket on which there is a slot, and the one there
     /// that came first.
     fn lowest(&self) -> Option<(u32, u32)>
-        requires { HasLinks self.now.lists (self.now.slots + 131) }
+        requires { HasLinks self.now.lists (self.now.slots + 67) }
         ensures some { (home : ℕ → Option ℕ) → IsHomed self.now home
             → IfSome result (IsLowest self.now.slots home) }
         ensures none { (home : ℕ → Option ℕ) → IsHomed self.now home
-            → IfNone result ((s l : ℕ) → 2 ≤ l → l < 130 → home s ≢ Some l) }
+            → IfNone result ((s l : ℕ) → 2 ≤ l → l < 66 → home s ≢ Some l) }
     {
         for list in LATE + 1..WAITING {
             if let Some(slot) = self.oldest(list) {
@@ -76,7 +76,7 @@ impl Buckets {
 
     /// Lets all slots of a list wait, one of which is given, and answers the least of their
     /// moments. There is no slot on the lists before it.
-    fn gather(&mut self, list: u32, slot: u32) -> i128
+    fn gather(&mut self, list: u32, slot: u32) -> i64
         requires filed { IsFiled self.old }
         requires lowest { (home : ℕ → Option ℕ) → IsHomed self.old home
             → IsLowest self.old.slots home (list, slot) }
@@ -134,7 +134,7 @@ impl Buckets {
 
     /// A slot whose moment is least, and its moment. Of equal moments an early one comes first, and
     /// then the one that was set first, as long as no moment is set below the one given last.
-    pub(crate) fn least(&mut self) -> Option<(u32, i128)>
+    pub(crate) fn least(&mut self) -> Option<(u32, i64)>
         requires { IsFiled self.old }
         ensures filed { IsFiled self.new }
         ensures moments { moments_of self.new ≡ moments_of self.old }

@@ -11,7 +11,7 @@ use std::marker::Model;
 
 /// The moments at which nodes have their next event, the least first, for a search in which moments
 /// only rise: none is set below the one that was given last. Then each call but `clear` takes
-/// constant time, besides at most 128 moves for each moment that is set; where one is set below,
+/// constant time, besides at most 64 moves for each moment that is set; where one is set below,
 /// every answer is right all the same, but that call takes time linear in the nodes. It is a radix
 /// heap (Ahuja, Mehlhorn, Orlin and Tarjan, Faster algorithms for the shortest path problem).
 /// Contracts see it as they see an `EdgeQueue` without edges.
@@ -42,7 +42,7 @@ impl RisingQueue {
     }
 
     /// The moment of a node. Any number may be asked for, in constant time.
-    pub fn moment(&self, node: NodeId) -> Option<i128>
+    pub fn moment(&self, node: NodeId) -> Option<i64>
         ensures { result ≡ moment_of self.now (OfNode node) }
     {
         let item = Item::Blossom(node);
@@ -55,7 +55,7 @@ impl RisingQueue {
     /// A node whose moment is least, and its moment. Of equal moments any may be given; as long as
     /// moments only rise it is one that was set early if there is any, and of those the one that
     /// was given its moment first.
-    pub fn least(&mut self) -> Option<(Item, i128)>
+    pub fn least(&mut self) -> Option<(Item, i64)>
         ensures least { IsLeast self.old result }
         ensures same { self.new ≡ self.old }
     {
@@ -64,7 +64,7 @@ impl RisingQueue {
     }
 
     /// Gives a node this moment, whether it had one or not.
-    pub fn set(&mut self, node: NodeId, moment: i128)
+    pub fn set(&mut self, node: NodeId, moment: i64)
         requires { IsItem self.old (OfNode node) }
         ensures { self.new ≡ with_moment self.old (OfNode node) (Some moment) }
     {
@@ -74,7 +74,7 @@ impl RisingQueue {
 
     /// Gives a node this moment, as `set` does, and lets it come before those of the same moment
     /// that weren't set by this call.
-    pub fn set_early(&mut self, node: NodeId, moment: i128)
+    pub fn set_early(&mut self, node: NodeId, moment: i64)
         requires { IsItem self.old (OfNode node) }
         ensures { self.new ≡ with_moment self.old (OfNode node) (Some moment) }
     {

@@ -9,8 +9,8 @@ use crate::filing::list_of;
 
 impl Buckets {
     /// Whether a slot has this moment already, and comes early where it is to.
-    fn has(&self, slot: u32, moment: i128, early: bool) -> bool
-        requires links { HasLinks self.now.lists (self.now.slots + 131) }
+    fn has(&self, slot: u32, moment: i64, early: bool) -> bool
+        requires links { HasLinks self.now.lists (self.now.slots + 67) }
         requires moments { vec_len self.now.moments ≡ self.now.slots }
         requires early { vec_len self.now.early ≡ self.now.slots }
         requires slot { slot < self.now.slots }
@@ -40,7 +40,7 @@ impl Buckets {
     }
 
     /// Puts a slot that has this moment, at which the first bucket ends, into the second one.
-    fn put_back(&mut self, slot: u32, last: i128)
+    fn put_back(&mut self, slot: u32, last: i64)
         requires lowering { IsLowering self.old last slot }
         requires slot { slot < self.old.slots }
         ensures lowering { IsLowering self.new last (slot + 1) }
@@ -58,7 +58,7 @@ impl Buckets {
 
     /// Lets the first bucket end at a moment if that comes before its end, in time linear in the
     /// slots then: those in the first bucket come into the second one.
-    fn lower(&mut self, moment: i128)
+    fn lower(&mut self, moment: i64)
         requires { IsFiled self.old }
         ensures filed { IsFiled self.new }
         ensures moments { moments_of self.new ≡ moments_of self.old }
@@ -76,7 +76,7 @@ impl Buckets {
     }
 
     /// Keeps this moment for a slot, and whether it comes early.
-    fn note(&mut self, slot: u32, moment: i128, early: bool)
+    fn note(&mut self, slot: u32, moment: i64, early: bool)
         requires moments { slot < vec_len self.old.moments }
         requires early { slot < vec_len self.old.early }
         ensures items { self.new.moments.items ≡ slice_set self.old.moments.items slot moment }
@@ -91,7 +91,7 @@ impl Buckets {
 
     /// Gives a slot that has no moment this one, which doesn't come before the end of the first
     /// bucket.
-    fn give(&mut self, slot: u32, moment: i128, early: bool)
+    fn give(&mut self, slot: u32, moment: i64, early: bool)
         requires filed { IsFiled self.old }
         requires slot { slot < self.old.slots }
         requires none { moment_at self.old slot ≡ None }
@@ -107,7 +107,7 @@ impl Buckets {
 
     /// Gives a slot this moment. Where it has it already it keeps its place, unless it is to come
     /// early and doesn't.
-    pub(crate) fn set(&mut self, slot: u32, moment: i128, early: bool)
+    pub(crate) fn set(&mut self, slot: u32, moment: i64, early: bool)
         requires filed { IsFiled self.old }
         requires slot { slot < self.old.slots }
         ensures filed { IsFiled self.new }
@@ -132,6 +132,6 @@ impl Buckets {
         for slot in 0..self.slots {
             self.remove(slot);
         }
-        spread(&mut self.ends, 0, 128);
+        spread(&mut self.ends, 0, 64);
     }
 }

@@ -42,6 +42,7 @@ module _ (s : Search) (b c d : EventBounds) (v : ℕ) (least : Least) (shape : H
   bounding_anew = record {
     low = h.low;
     high = h.high;
+    near = h.near;
     places = places;
     hints = enter_hints s c d v rest places here others (hints_given s.graph b c v least.edge least.key given (λ some. giving_parts s v least (from some)) h.hints);
     keys = λ e x u w to unnoted outer apart. enter_keyed s c d v rest places here others u (key_from (state_of s) s.clock x w) (keyed_anew e x u w to outer apart);

@@ -4,7 +4,7 @@ use Rattle.alt_forest.proofs.Common.{ap₂, ◌∙◌, subst, ⊎_elim, NUMBER_L
 use Rattle.alt_forest.proofs.Common.{LeadsTo, HasShape, is_given, state_of, IsBlossomEntered, leads_vertex, outer_not_inner}
 use Rattle.alt_forest.specs.declared.search.Search.{Search}
 use Rattle.event_bounds.specs.declared.bounds.EventBounds.{EventBounds}
-use Rattle.event_bounds.specs.Bounds.{ComesUp, HasHints, HasPlaces, IsBounding, IsBoundingBut, IsHalf, bound_of, key_from, key_of, reach}
+use Rattle.event_bounds.specs.Bounds.{ComesUp, HasHints, HasNearSums, HasPlaces, IsBounding, IsBoundingBut, IsHalf, bound_of, key_from, key_of, reach}
 use Rattle.alt_forest.proofs.Leads.{leads_back}
 
 -- A vertex has the label of its node that it had, or lies in an inner node now. Out of the trees it keeps its dual sum, in an outer
@@ -35,16 +35,17 @@ comes_same was now sum sum2 clock clock2 key moment label out outer h =
 
 -- The step: t is the search after it, and c has the keys of b, with moments that may be others for what is noted and for blossoms.
 pub bounding_kept : (s t : Search) (b c : EventBounds) (noted : List ℕ) → HasShape s → IsBounding s b → t.graph ≡ s.graph → t.weights ≡ s.weights → pos 0 ≤ℤ t.clock
-    → t.clock ≤ℤ NUMBER_LIMIT → HasPlaces s.graph c → c ≡ record b { moments = c.moments }
+    → t.clock ≤ℤ NUMBER_LIMIT → HasNearSums (state_of t) t.clock → HasPlaces s.graph c → c ≡ record b { moments = c.moments }
     → ((v : ℕ) → is_vertex s.graph.vertices v ≡ true → holds noted v ≡ false → IsKept s t v)
     → ((v : ℕ) → is_vertex s.graph.vertices v ≡ true → holds noted v ≡ false → bound_of c.moments v ≡ bound_of b.moments v)
     → ((a : ℕ) → holds (names_of t.arena.blossoms) a ≡ true → IsBlossomEntered (state_of t) t.clock c.moments a)
     → ((item : Item) → moment_of t.queue item ≡ None) → IsBoundingBut t c noted
-bounding_kept s t b c noted shape h graph weights low high places rest kept moments blossoms unused =
+bounding_kept s t b c noted shape h graph weights low high near places rest kept moments blossoms unused =
     let same_key : (v : ℕ) → key_of c v ≡ key_of b v = λ v. ap (λ (x : EventBounds). key_of x v) rest in
     record {
       low = low;
       high = high;
+      near = near;
       places = subst (λ (g : Multigraph). HasPlaces g c) (sym graph) places;
       hints = subst (λ (g : Multigraph). HasHints g c) (sym graph) (subst (HasHints s.graph) (sym rest) h.hints);
       keys = λ e v u w to unnoted outer apart.
@@ -68,9 +69,9 @@ bounding_kept s t b c noted shape h graph weights low high places rest kept mome
 
 -- the same where the bounds are left as they are
 pub bounding_still : (s t : Search) (b : EventBounds) (noted : List ℕ) → HasShape s → IsBounding s b → t.graph ≡ s.graph → t.weights ≡ s.weights → pos 0 ≤ℤ t.clock
-    → t.clock ≤ℤ NUMBER_LIMIT
+    → t.clock ≤ℤ NUMBER_LIMIT → HasNearSums (state_of t) t.clock
     → ((v : ℕ) → is_vertex s.graph.vertices v ≡ true → holds noted v ≡ false → IsKept s t v)
     → ((a : ℕ) → holds (names_of t.arena.blossoms) a ≡ true → IsBlossomEntered (state_of t) t.clock b.moments a)
     → ((item : Item) → moment_of t.queue item ≡ None) → IsBoundingBut t b noted
-bounding_still s t b noted shape h graph weights low high kept blossoms unused =
-    bounding_kept s t b b noted shape h graph weights low high h.places refl kept (λ v is unnoted. refl) blossoms unused
+bounding_still s t b noted shape h graph weights low high near kept blossoms unused =
+    bounding_kept s t b b noted shape h graph weights low high near h.places refl kept (λ v is unnoted. refl) blossoms unused

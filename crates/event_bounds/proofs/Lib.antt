@@ -1,5 +1,6 @@
 pub mod Gives
 pub mod Stale
+pub mod Near
 pub mod Kept
 pub mod Least
 pub mod Lowered

@@ -148,6 +148,7 @@ pub bounding_less : (s : Search) (b c d : EventBounds) (v : ℕ) (vs : List ℕ)
 bounding_less s b c d v vs shape vertex h lowered given rest places here others = record {
   low = h.low;
   high = h.high;
+  near = h.near;
   places = places;
   hints = enter_hints s c d v rest places here others lowered.hints;
   keys = λ e x u w to unnoted outer apart. enter_keyed s c d v rest places here others u (key_from (state_of s) s.clock x w) (by_test (eqb x v)

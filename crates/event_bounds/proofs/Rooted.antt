@@ -7,6 +7,7 @@ use Rattle.event_bounds.specs.declared.bounds.EventBounds.{EventBounds}
 use Rattle.event_bounds.specs.Bounds.{IsBounding, IsBoundingBut, reach}
 use Rattle.event_bounds.specs.Looks.{is_stale_at, stale_ends}
 use Rattle.event_bounds.proofs.Kept.{IsKept, bounding_still}
+use Rattle.event_bounds.proofs.Near.{near_same}
 use Rattle.event_bounds.proofs.Stale.{KeepsOuter, stale_fewer, stale_still}
 
 module _ (s t : Search) (v : ℕ) (is : t ≡ record s { arena = record s.arena { motions = t.arena.motions }; labels = t.labels; standing = t.standing; scanned = t.scanned })
@@ -41,7 +42,8 @@ module _ (s t : Search) (v : ℕ) (is : t ≡ record s { arena = record s.arena 
 
   pub rooted_bounding : (b : EventBounds) → IsBounding s b → t.scanned.items ≡ members_of s.arena.blossoms v → IsBoundingBut t b t.scanned.items
   rooted_bounding b h noted = subst (IsBoundingBut t b) (sym noted) (bounding_still s t b (members_of s.arena.blossoms v) sound.shape h (ap (λ (y : Search). y.graph) is)
-      (ap (λ (y : Search). y.weights) is) (rw is h.low) (rw is h.high) rooted_kept (rw is (planted_blossoms s t v is labels sound exposed out b.moments h.blossoms))
+      (ap (λ (y : Search). y.weights) is) (rw is h.low) (rw is h.high)
+      (near_same (state_of s) (state_of t) s.clock t.clock (ap (λ (y : Search). y.graph) is) (ap (λ (y : Search). y.clock) is) (λ x vertex. rooted_sum x) h.near) rooted_kept (rw is (planted_blossoms s t v is labels sound exposed out b.moments h.blossoms))
       (λ item. ap (λ (y : Search). moment_of y.queue item) is ∙ h.unused item))
 
   -- outer nodes stay so, and keep what they are

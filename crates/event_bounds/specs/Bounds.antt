@@ -8,7 +8,7 @@
 use Rattle.std.specs.Prelude.{◌≡◌, ◌≢◌, ℕ, ◌+◌, ℤ, pos, neg_ℤ, ◌+ℤ◌, ◌-ℤ◌, ◌*ℤ◌, ◌≤ℤ◌, true, false}
 use Rattle.std.specs.Prelude.{◌==◌, if◌then◌else◌, List, [], length, slice_index_or, Option, Some}
 use Rattle.std.specs.Prelude.{None, vec_len, ⊤}
-use Rattle.graph_theory.specs.declared.limits.TheConstants.{GRAPH_VERTEX_LIMIT, NUMBER_LIMIT}
+use Rattle.graph_theory.specs.declared.limits.TheConstants.{NUMBER_LIMIT, WEIGHT_LIMIT}
 use Rattle.graph_theory.specs.Graph.{Multigraph, IsEdgeNumber, edge_of, touches}
 use Rattle.graph_theory.specs.Parts.{holds}
 use Rattle.blossom_arena.specs.Family.{is_vertex, names_of, outermost}
@@ -85,10 +85,10 @@ pub record HasPlaces (g : Multigraph) (b : EventBounds) : Type 0 where
   pub hints : vec_len b.hints ≡ g.vertices + 1
   pub keys : vec_len b.keys ≡ g.vertices + 1
 
--- no key lies further from 0
+-- a key in range: a doubled weight, at most 2W, less a reach
 abbrev pub IsKey : ℤ → Type 0
-IsKey k = (neg_ℤ (NUMBER_LIMIT *ℤ pos (GRAPH_VERTEX_LIMIT + 2)) ≤ℤ k)
-    × (k ≤ℤ (NUMBER_LIMIT *ℤ pos (GRAPH_VERTEX_LIMIT + 2)))
+IsKey k = (neg_ℤ (pos 5 *ℤ WEIGHT_LIMIT) ≤ℤ k)
+    × (k ≤ℤ ((pos 3 *ℤ WEIGHT_LIMIT) +ℤ (pos 2 *ℤ NUMBER_LIMIT)))
 
 -- the edge that gave a vertex its key is one at that vertex
 abbrev pub HasHints : Multigraph → EventBounds → Type 0
@@ -96,11 +96,22 @@ HasHints g b = (v : ℕ) → is_vertex g.vertices v ≡ true → hint_of b v ≢
     → IsEdgeNumber g (hint_of b v) × (touches (edge_of g (hint_of b v)) v ≡ true)
     × IsKey (kept_key b v)
 
+-- The duals of the nodes that hold a vertex add up to a number from -W to 3W, for the greatest
+-- weight W, or no farther outside than the clock: a pass begins so, and a change by d moves the sum
+-- by d at most.
+pub record HasNearSums (s : State) (clock : ℤ) : Type 0 where
+  pub low : (v : ℕ) → is_vertex s.graph.vertices v ≡ true
+      → neg_ℤ (WEIGHT_LIMIT +ℤ clock) ≤ℤ dual_sum s v
+  pub high : (v : ℕ) → is_vertex s.graph.vertices v ≡ true
+      → dual_sum s v ≤ℤ ((pos 3 *ℤ WEIGHT_LIMIT) +ℤ clock)
+
 -- the bounds of a search but for what these vertices, which have been noted, have still to give and
 -- to enter
 pub record IsBoundingBut (s : Search) (b : EventBounds) (noted : List ℕ) : Type 0 where
   pub low : pos 0 ≤ℤ s.clock
   pub high : s.clock ≤ℤ NUMBER_LIMIT
+  -- the sums are such that keys and moments fit 64 bits
+  pub near : HasNearSums (state_of s) s.clock
   pub places : HasPlaces s.graph b
   pub hints : HasHints s.graph b
   -- each edge from an outer vertex gives its key to its other end, if that lies in another node

@@ -1,8 +1,8 @@
 -- What the private calls keep while vertices give their keys. Only clauses of private calls cite
 -- this module.
-use Rattle.std.specs.Prelude.{◌≡◌, ◌≢◌, ℕ, ◌+◌, ℤ, pos, neg_ℤ, ◌*ℤ◌, ◌≤ℤ◌, true, false, Option}
+use Rattle.std.specs.Prelude.{◌≡◌, ◌≢◌, ℕ, ℤ, pos, neg_ℤ, ◌+ℤ◌, ◌*ℤ◌, ◌≤ℤ◌, true, false, Option}
 use Rattle.std.specs.Prelude.{Some, None, vec_len}
-use Rattle.graph_theory.specs.declared.limits.TheConstants.{GRAPH_VERTEX_LIMIT, NUMBER_LIMIT}
+use Rattle.graph_theory.specs.declared.limits.TheConstants.{NUMBER_LIMIT, WEIGHT_LIMIT}
 use Rattle.graph_theory.specs.Graph.{IsEdgeNumber, edge_of, touches}
 use Rattle.blossom_arena.specs.Family.{is_vertex, outermost}
 use Rattle.blossom_arena.specs.declared.label.Label.TheVariants.{Outer}
@@ -17,10 +17,10 @@ use Rattle.event_bounds.specs.Bounds.{HasPlaces, HasHints, IsBoundEntered, IsKey
 use Rattle.event_bounds.specs.Bounds.{hint_of, kept_key, key_from, reach}
 use Rattle.event_bounds.specs.Looks.{is_stale_at}
 
--- no reach lies further from 0
+-- a reach in range: a sum that is as near as `HasNearSums` says, less the clock
 abbrev pub IsReach : ℤ → Type 0
-IsReach x = (neg_ℤ (NUMBER_LIMIT *ℤ pos (GRAPH_VERTEX_LIMIT + 1)) ≤ℤ x)
-    × (x ≤ℤ (NUMBER_LIMIT *ℤ pos (GRAPH_VERTEX_LIMIT + 1)))
+IsReach x = (neg_ℤ (WEIGHT_LIMIT +ℤ (pos 2 *ℤ NUMBER_LIMIT)) ≤ℤ x)
+    × (x ≤ℤ (pos 3 *ℤ WEIGHT_LIMIT))
 
 -- what is at hand of a vertex is what holds in the state
 pub record IsGiver (s : State) (clock : ℤ) (giver : Giver) : Type 0 where

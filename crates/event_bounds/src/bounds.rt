@@ -28,7 +28,7 @@ use std::alloc::Global;
 #[derive(Drop)]
 pub struct EventBounds {
     pub moments: RisingQueue,
-    pub keys: Vec<i128>,
+    pub keys: Vec<i64>,
     pub hints: Vec<EdgeId>,
 }
 
@@ -44,7 +44,7 @@ impl EventBounds {
         ensures keys { IfOk result (λ b. vec_len b.keys ≡ vertices + 1) }
         ensures none { IfOk result (λ b. (v : ℕ) → hint_of b v ≡ 0) }
     {
-        let keys = vec![in alloc; 0i128; vertices as usize + 1]?;
+        let keys = vec![in alloc; 0i64; vertices as usize + 1]?;
         let hints = vec![in alloc; EdgeId::new(0); vertices as usize + 1]?;
         let moments = RisingQueue::new(alloc, nodes)?;
         Ok(EventBounds {
@@ -75,7 +75,7 @@ impl EventBounds {
     }
 
     /// The key of a vertex, if it has one.
-    pub(crate) fn key(&self, v: VertexId) -> Option<i128>
+    pub(crate) fn key(&self, v: VertexId) -> Option<i64>
         requires hint { v < vec_len self.now.hints }
         requires key { v < vec_len self.now.keys }
         ensures { result ≡ key_of self.now v }
@@ -87,7 +87,7 @@ impl EventBounds {
     }
 
     /// Gives a vertex this key by an edge, or none by number 0.
-    pub(crate) fn give(&mut self, v: VertexId, key: i128, edge: EdgeId)
+    pub(crate) fn give(&mut self, v: VertexId, key: i64, edge: EdgeId)
         requires hint { v < vec_len self.old.hints }
         requires key { v < vec_len self.old.keys }
         ensures { IsGiven self.old self.new v edge key }
@@ -127,7 +127,7 @@ impl EventBounds {
             return;
         }
         if search.label(node) == Label::Inner {
-            let moment = i128::from(search.clock) + i128::from(search.arena.dual(node));
+            let moment = search.clock + search.arena.dual(node);
             self.moments.set(node, moment);
         }
     }

@@ -7,8 +7,8 @@ ghost use Rattle.edge_queue.specs.Moments.{IsItem, with_moment};
 ghost use Rattle.search_lists.specs.IncidentEdges.{IsIncidentEdge};
 ghost use Rattle.alt_forest.specs.Searches.{IsSound, state_of};
 ghost use Rattle.alt_forest.specs.Entries.{ends_looked};
-ghost use Rattle.event_bounds.specs.Bounds.{HasHints, HasPlaces, IsBoundEntered, IsBounding};
-ghost use Rattle.event_bounds.specs.Bounds.{IsBoundingBut, IsKeyed, bound_of, hint_of, key_from};
+ghost use Rattle.event_bounds.specs.Bounds.{HasHints, HasNearSums, HasPlaces, IsBoundEntered};
+ghost use Rattle.event_bounds.specs.Bounds.{IsBounding, IsBoundingBut, IsKeyed, bound_of, hint_of, key_from};
 ghost use Rattle.event_bounds.specs.Keys.{HasGiven, IsGiver, IsLowered};
 ghost use Rattle.event_bounds.specs.Looks.{ends_outer, is_stale_at};
 
@@ -21,7 +21,7 @@ use edge_queue::RisingQueue;
 use std::sync::ledger::Ledger;
 
 /// Gives a node this moment, and lets it come up before others of the same moment if it is early.
-fn set_moment(moments: &mut RisingQueue, node: NodeId, moment: i128, early: bool)
+fn set_moment(moments: &mut RisingQueue, node: NodeId, moment: i64, early: bool)
     requires { IsItem moments.old (OfNode node) }
     ensures { moments.new ≡ with_moment moments.old (OfNode node) (Some moment) }
 {
@@ -67,6 +67,7 @@ impl EventBounds {
         requires sound { IsSound search.now }
         requires low { pos 0 ≤ℤ search.now.clock }
         requires high { search.now.clock ≤ℤ NUMBER_LIMIT }
+        requires near { HasNearSums (state_of search.now) search.now.clock }
         requires vertex { is_vertex search.now.graph.vertices v ≡ true }
         requires places { HasPlaces search.now.graph self.old }
         requires hints { HasHints search.now.graph self.old }
@@ -95,7 +96,7 @@ impl EventBounds {
     }
 
     /// Whether a vertex has no key, or a higher one than this.
-    fn is_lower(&self, v: VertexId, key: i128) -> bool
+    fn is_lower(&self, v: VertexId, key: i64) -> bool
         requires hint { v < vec_len self.now.hints }
         requires key { v < vec_len self.now.keys }
         ensures lower { result ≡ true → (k : ℤ) → IsKeyed self.now v k → key ≤ℤ k }
@@ -113,6 +114,7 @@ impl EventBounds {
         requires sound { IsSound search.now }
         requires low { pos 0 ≤ℤ search.now.clock }
         requires high { search.now.clock ≤ℤ NUMBER_LIMIT }
+        requires near { HasNearSums (state_of search.now) search.now.clock }
         requires giver { IsGiver (state_of search.now) search.now.clock giver.now }
         requires incident { IsIncidentEdge search.now.graph giver.now.vertex incident.now }
         requires places { HasPlaces search.now.graph self.old }
@@ -139,6 +141,7 @@ impl EventBounds {
         requires sound { IsSound search.now }
         requires low { pos 0 ≤ℤ search.now.clock }
         requires high { search.now.clock ≤ℤ NUMBER_LIMIT }
+        requires near { HasNearSums (state_of search.now) search.now.clock }
         requires giver { IsGiver (state_of search.now) search.now.clock giver.now }
         requires edges { edges.now ≡ slice_index_or search.now.incidence giver.now.vertex [] }
         requires places { HasPlaces search.now.graph self.old }
@@ -156,6 +159,7 @@ impl EventBounds {
         requires sound { IsSound search.now }
         requires low { pos 0 ≤ℤ search.now.clock }
         requires high { search.now.clock ≤ℤ NUMBER_LIMIT }
+        requires near { HasNearSums (state_of search.now) search.now.clock }
         requires vertex { is_vertex search.now.graph.vertices v ≡ true }
         requires places { HasPlaces search.now.graph self.old }
         requires hints { HasHints search.now.graph self.old }

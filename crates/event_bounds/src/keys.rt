@@ -7,7 +7,7 @@ ghost use Rattle.blossom_arena.specs.declared.label.Label.TheVariants.{Outer};
 ghost use Rattle.alt_forest.specs.State.{dual_sum};
 ghost use Rattle.search_lists.specs.IncidentEdges.{IsIncidentEdge};
 ghost use Rattle.alt_forest.specs.Searches.{IsSound, is_given, label_at, state_of};
-ghost use Rattle.event_bounds.specs.Bounds.{ComesUp, IsHalf, IsKey, reach};
+ghost use Rattle.event_bounds.specs.Bounds.{ComesUp, HasNearSums, IsHalf, IsKey, reach};
 ghost use Rattle.event_bounds.specs.Keys.{IsFrom, IsGiver, IsKeyTo, IsLow, IsNoLower, IsReach};
 
 use alt_forest::{IncidentEdge, Label, Search, doubled};
@@ -20,34 +20,35 @@ use blossom_arena::NodeId;
 pub(crate) struct Giver {
     pub(crate) vertex: VertexId,
     pub(crate) node: NodeId,
-    pub(crate) reach: i128,
+    pub(crate) reach: i64,
 }
 
 /// The least key that has been found for a vertex, and the edge that gives it; number 0 if none has
 /// been found.
 #[derive(Clone, Copy)]
 pub(crate) struct Least {
-    pub(crate) key: i128,
+    pub(crate) key: i64,
     pub(crate) edge: EdgeId,
 }
 
 /// Half of a number, rounded towards 0.
-fn half(twice: i128) -> i128
+fn half(twice: i64) -> i64
     ensures { IsHalf twice result }
 {
     twice / 2
 }
 
 /// How much the dual sum of a vertex is ahead of the clock.
-fn reach_of(search: &Search, v: VertexId) -> i128
+fn reach_of(search: &Search, v: VertexId) -> i64
     requires sound { IsSound search.now }
     requires low { pos 0 ≤ℤ search.now.clock }
     requires high { search.now.clock ≤ℤ NUMBER_LIMIT }
+    requires near { HasNearSums (state_of search.now) search.now.clock }
     requires vertex { is_vertex search.now.graph.vertices v ≡ true }
     ensures reach { result ≡ reach (state_of search.now) search.now.clock v }
     ensures in_range { IsReach result }
 {
-    search.arena.dual_sum(v) - i128::from(search.clock)
+    search.arena.near_sum(v) - search.clock
 }
 
 /// What is at hand of a vertex of an outer node.
@@ -55,6 +56,7 @@ pub(crate) fn giver_of(search: &Search, v: VertexId, node: NodeId) -> Giver
     requires sound { IsSound search.now }
     requires low { pos 0 ≤ℤ search.now.clock }
     requires high { search.now.clock ≤ℤ NUMBER_LIMIT }
+    requires near { HasNearSums (state_of search.now) search.now.clock }
     requires vertex { is_vertex search.now.graph.vertices v ≡ true }
     requires node { node ≡ outermost search.now.arena.blossoms v }
     requires outer { label_at search.now.labels.items (outermost search.now.arena.blossoms v)
@@ -70,22 +72,23 @@ pub(crate) fn giver_of(search: &Search, v: VertexId, node: NodeId) -> Giver
 }
 
 /// The key that an edge of this weight gives from a vertex of this reach.
-pub(crate) fn key_at(search: &Search, reach: i128, weight: i64) -> i128
+pub(crate) fn key_at(search: &Search, reach: i64, weight: i64) -> i64
     requires reach { IsReach reach }
     requires weight { IsWeight weight }
     ensures key { result ≡ (if is_given search.now.weights then pos 2 *ℤ weight else pos 0)
         -ℤ reach }
     ensures in_range { IsKey result }
 {
-    i128::from(doubled(search.weights, weight)) - reach
+    doubled(search.weights, weight) - reach
 }
 
 /// The key that an edge of this weight gives a vertex of a node from its other end, if that lies in
 /// another node, an outer one.
-pub(crate) fn key_to(search: &Search, node: NodeId, far: VertexId, weight: i64) -> Option<i128>
+pub(crate) fn key_to(search: &Search, node: NodeId, far: VertexId, weight: i64) -> Option<i64>
     requires sound { IsSound search.now }
     requires low { pos 0 ≤ℤ search.now.clock }
     requires high { search.now.clock ≤ℤ NUMBER_LIMIT }
+    requires near { HasNearSums (state_of search.now) search.now.clock }
     requires vertex { is_vertex search.now.graph.vertices far ≡ true }
     requires weight { IsWeight weight }
     ensures { IsKeyTo (state_of search.now) search.now.clock node far weight result }
@@ -102,17 +105,18 @@ pub(crate) fn key_to(search: &Search, node: NodeId, far: VertexId, weight: i64) 
 
 /// The moment at which the key of a vertex comes up, by the label of its node: when its dual sum
 /// has come up to the key. In an inner node it falls.
-pub(crate) fn comes_up(search: &Search, v: VertexId, label: Label, key: i128) -> Option<i128>
+pub(crate) fn comes_up(search: &Search, v: VertexId, label: Label, key: i64) -> Option<i64>
     requires sound { IsSound search.now }
     requires low { pos 0 ≤ℤ search.now.clock }
     requires high { search.now.clock ≤ℤ NUMBER_LIMIT }
+    requires near { HasNearSums (state_of search.now) search.now.clock }
     requires vertex { is_vertex search.now.graph.vertices v ≡ true }
     requires key { IsKey key }
     ensures { ComesUp label (dual_sum (state_of search.now) v) search.now.clock (Some key) result }
 {
     match label {
         Label::Outer => Some(half(key - reach_of(search, v))),
-        Label::Out => Some(key - search.arena.dual_sum(v)),
+        Label::Out => Some(key - search.arena.near_sum(v)),
         Label::Inner => None,
     }
 }
@@ -134,7 +138,7 @@ pub(crate) fn joins_trees(search: &Search, one: NodeId, other: NodeId) -> bool {
 }
 
 /// Whether a key is lower than the least so far.
-fn is_less(key: i128, least: &Least) -> bool
+fn is_less(key: i64, least: &Least) -> bool
     ensures less { result ≡ true → (k : ℤ) → IsLow least.now k → key ≤ℤ k }
     ensures other { result ≢ true → IsLow least.now key }
 {
@@ -156,6 +160,7 @@ fn lesser(
     requires sound { IsSound search.now }
     requires low { pos 0 ≤ℤ search.now.clock }
     requires high { search.now.clock ≤ℤ NUMBER_LIMIT }
+    requires near { HasNearSums (state_of search.now) search.now.clock }
     requires node { node ≡ outermost search.now.arena.blossoms v }
     requires incident { IsIncidentEdge search.now.graph v incident.now }
     requires from { IsFrom (state_of search.now) search.now.clock v least }
@@ -180,6 +185,7 @@ pub(crate) fn least_key(search: &Search, v: VertexId, node: NodeId, edges: &[Inc
     requires sound { IsSound search.now }
     requires low { pos 0 ≤ℤ search.now.clock }
     requires high { search.now.clock ≤ℤ NUMBER_LIMIT }
+    requires near { HasNearSums (state_of search.now) search.now.clock }
     requires vertex { is_vertex search.now.graph.vertices v ≡ true }
     requires node { node ≡ outermost search.now.arena.blossoms v }
     requires edges { edges.now ≡ slice_index_or search.now.incidence v [] }

@@ -7,6 +7,7 @@ use Rattle.edge_queue.specs.declared.item.Item.TheVariants.{Edge as OfEdge}
 use Rattle.event_bounds.specs.declared.bounds.EventBounds.{EventBounds}
 use Rattle.event_bounds.specs.Bounds.{HasPlaces, IsBounding, IsBoundingBut, bound_of}
 use Rattle.event_bounds.proofs.Kept.{bounding_kept}
+use Rattle.event_bounds.proofs.Near.{near_same}
 use Rattle.tree_steps.specs.Left.{Leaves}
 use Rattle.tree_steps.proofs.Needs.{Stays, needs_still}
 
@@ -37,7 +38,8 @@ module _ {f k : Search} {noted : List ℕ} (h : IsSound f) (x : Leaves (state_of
       → ((v : ℕ) → is_vertex f.graph.vertices v ≡ true → bound_of c.moments v ≡ bound_of b.moments v)
       → ((a : ℕ) → holds (names_of k.arena.blossoms) a ≡ true → IsBlossomEntered (state_of k) f.clock c.moments a) → IsBoundingBut k c noted
   left_bounding b c was weights queue places only vertices blossoms = bounding_kept f k b c noted h.shape was x.graph weights
-      (subst (λ (z : ℤ). pos 0 ≤ℤ z) (sym clock) was.low) (subst (λ (z : ℤ). z ≤ℤ NUMBER_LIMIT) (sym clock) was.high) places only
+      (subst (λ (z : ℤ). pos 0 ≤ℤ z) (sym clock) was.low) (subst (λ (z : ℤ). z ≤ℤ NUMBER_LIMIT) (sym clock) was.high)
+      (near_same (state_of f) (state_of k) f.clock k.clock x.graph clock x.sum was.near) places only
       (λ v is out. record {
         label = x.ends v is out;
         out = λ e. x.sum v is;

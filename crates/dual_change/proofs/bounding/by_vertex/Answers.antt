@@ -1,5 +1,5 @@
 use Rattle.alt_forest.proofs.Common.{◌≡◌, ◌≢◌, ◌∙◌, ℕ, ℤ, Some, sym, ap, subst, arith, to_z, of_z, w128, both_ways, outermost, Inner, NeedsMoment, state_of}
-use Rattle.alt_forest.proofs.Common.{label_at, nested_of}
+use Rattle.alt_forest.proofs.Common.{Multigraph, IsEdgeNumber, label_at, nested_of}
 use Rattle.graph_theory.proofs.Common.{to_z-of_z}
 use Rattle.alt_forest.specs.declared.search.Search.{Search}
 use Rattle.dual_change.specs.declared.event.Next.TheVariants.{Stuck}
@@ -20,6 +20,13 @@ drop_moment-requires-clause-idle g c =
     let s : Search = c.args.search.now in
     subst (IsIdle (state_of s)) (sym (c.new.ensures ∙ c.number.ensures))
     (idle_vertex (state_of s) c.args.v (nested_of s c.requires.sound.shape) c.requires.vertex (c.lies_in_inner.ensures.0 c.if-lies_in_inner.true))
+
+pub by_edge-requires-clause-edge : goal.by_edge-requires-clause-edge
+by_edge-requires-clause-edge g c =
+    let s : Search = c.args.search.now in let b : EventBounds = c.args.bounds.now in
+    let lies : label_at s.labels.items (outermost s.arena.blossoms c.args.v) ≢ Inner = λ q. both_ways c.lies_in_inner.result c.if-lies_in_inner.false (c.lies_in_inner.ensures.1 q) in
+    let h = hint_needs s b c.args.v c.args.moment c.requires.sound c.requires.bounding c.requires.vertex lies (sym c.is_stale.ensures ∙ c.if-is_stale.false) c.requires.has in
+    subst (IsEdgeNumber c.args.graph.now) (sym c.hint.ensures) (subst (λ (k : Multigraph). IsEdgeNumber k (hint_of b c.args.v)) (sym c.requires.same) h.number)
 
 pub by_edge-requires-clause-entered : goal.by_edge-requires-clause-entered
 by_edge-requires-clause-entered g c =

@@ -1,11 +1,11 @@
-use Rattle.graph_theory.proofs.Common.{◌≡◌, ◌≤◌, ◌-◌, ◌+◌, ℤ, List, sym, subst, ap, arith, ints, rules, to_z, of_z, w128}
+use Rattle.graph_theory.proofs.Common.{◌≡◌, ◌≤◌, ◌-◌, ◌+◌, ℤ, List, sym, subst, ap, arith, ints, rules, to_z, of_z, w64}
 use Rattle.edge_queue.specs.Rising.{IsSpread, end_at}
 use Rattle.edge_queue.proofs.Spreads.{IsSpreading, spread_ends, spread_starts, spread_steps}
 use Rattle.edge_queue.proofs.ends.spread.Goals as goal
 
 pub loop-bucket-init : goal.loop-bucket-init
 loop-bucket-init c =
-    let old = c.args.ends.now.items in let m : ℤ = to_z w128 (of_z w128 c.args.moment) in
+    let old = c.args.ends.now.items in let m : ℤ = to_z w64 (of_z w64 c.args.moment) in
     let kept : m ≡ c.args.moment = search rules in
     subst (λ (es : List ℤ). IsSpreading old es m c.args.last 1) (sym c.set_end.ensures)
     (spread_starts old m c.args.last c.requires.ends (omega (arith, ints, kept, c.requires.high)))
@@ -13,8 +13,8 @@ loop-bucket-init c =
 pub nearest-end-requires : goal.nearest-end-requires
 nearest-end-requires c =
     let s = c.loop-bucket.invariant in
-    let one : to_z w128 (of_z w128 c.end_of.result) ≡ c.end_of.result = search rules in
-    let other : to_z w128 (of_z w128 c.end_of-in-loop-bucket.result) ≡ c.end_of-in-loop-bucket.result = search rules in
+    let one : to_z w64 (of_z w64 c.end_of.result) ≡ c.end_of.result = search rules in
+    let other : to_z w64 (of_z w64 c.end_of-in-loop-bucket.result) ≡ c.end_of-in-loop-bucket.result = search rules in
     omega (
       arith,
       ints,
@@ -30,18 +30,18 @@ nearest-end-requires c =
 
 pub loop-bucket-preserved : goal.loop-bucket-preserved
 loop-bucket-preserved c =
-    let l = c.loop-bucket in let old = c.args.ends.now.items in let m : ℤ = to_z w128 (of_z w128 c.args.moment) in
-    let one : to_z w128 (of_z w128 c.end_of.result) ≡ c.end_of.result = search rules in
-    let other : to_z w128 (of_z w128 c.end_of-in-loop-bucket.result) ≡ c.end_of-in-loop-bucket.result = search rules in
-    let kept : to_z w128 (of_z w128 c.nearest-end.result) ≡ c.nearest-end.result = search rules in
+    let l = c.loop-bucket in let old = c.args.ends.now.items in let m : ℤ = to_z w64 (of_z w64 c.args.moment) in
+    let one : to_z w64 (of_z w64 c.end_of.result) ≡ c.end_of.result = search rules in
+    let other : to_z w64 (of_z w64 c.end_of-in-loop-bucket.result) ≡ c.end_of-in-loop-bucket.result = search rules in
+    let kept : to_z w64 (of_z w64 c.nearest-end.result) ≡ c.nearest-end.result = search rules in
     subst (λ (es : List ℤ). IsSpreading old es m c.args.last (l.bucket + 1)) (sym c.set_end-in-loop-bucket.ensures)
-    (spread_steps old l.ends.items m (to_z w128 (of_z w128 c.nearest-end.result)) c.args.last l.bucket l.invariant (omega (arith, l.auto.bucket)) c.loop-bucket-test.true c.requires.last
+    (spread_steps old l.ends.items m (to_z w64 (of_z w64 c.nearest-end.result)) c.args.last l.bucket l.invariant (omega (arith, l.auto.bucket)) c.loop-bucket-test.true c.requires.last
     (omega (arith, ints, one, kept, c.end_of.ensures, ap (λ (es : List ℤ). end_at es (l.bucket - 1)) c.deref.ensures.value, c.nearest-end.ensures.low))
     (omega (arith, ints, other, kept, c.end_of-in-loop-bucket.ensures, ap (λ (es : List ℤ). end_at es c.args.last) c.deref-in-loop-bucket.ensures.value, c.nearest-end.ensures.high)))
 
 pub returns : goal.returns
 returns c =
-    let l = c.loop-bucket in let m : ℤ = to_z w128 (of_z w128 c.args.moment) in
+    let l = c.loop-bucket in let m : ℤ = to_z w64 (of_z w64 c.args.moment) in
     let kept : m ≡ c.args.moment = search rules in
     let up : l.bucket ≤ c.args.last = l.auto.bucket-end (omega (arith, c.requires.after)) in
     subst (λ (z : ℤ). IsSpread c.args.ends.now.items l.ends.items z c.args.last) kept

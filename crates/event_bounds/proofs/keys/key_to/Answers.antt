@@ -1,4 +1,4 @@
-use Rattle.alt_forest.proofs.Common.{◌≡◌, ◌∙◌, ℤ, pos, ◌*ℤ◌, ◌-ℤ◌, cond, sym, ap, ap₂, subst, rules, to_z, of_z, w64, w128, is_given, state_of}
+use Rattle.alt_forest.proofs.Common.{◌≡◌, ◌∙◌, ℤ, pos, ◌*ℤ◌, ◌-ℤ◌, cond, sym, ap, ap₂, subst, rules, to_z, of_z, w64, is_given, state_of}
 use Rattle.alt_forest.proofs.Common.{IsWeight}
 use Rattle.event_bounds.specs.Bounds.{IsKey}
 use Rattle.event_bounds.specs.Keys.{IsReach}
@@ -6,8 +6,8 @@ use Rattle.event_bounds.proofs.keys.key_to.Goals as goal
 
 pub returns-in-Outer : goal.returns-in-Outer
 returns-in-Outer c =
-    let s = c.args.search.now in let back : to_z w128 (of_z w128 c.key_at.result) ≡ c.key_at.result = search rules in
-    let reached : to_z w128 (of_z w128 c.reach_of.result) ≡ c.reach_of.result = search rules in
+    let s = c.args.search.now in let back : to_z w64 (of_z w64 c.key_at.result) ≡ c.key_at.result = search rules in
+    let reached : to_z w64 (of_z w64 c.reach_of.result) ≡ c.reach_of.result = search rules in
     let weighs : to_z w64 (of_z w64 c.args.weight) ≡ c.args.weight = search rules in (
       record {
         other = λ p. c.if-number.false (c.number.ensures ∙ c.outermost-other.ensures.node ∙ p ∙ sym c.number-2.ensures);
@@ -19,6 +19,6 @@ returns-in-Outer c =
 
 pub key_at-requires : goal.key_at-requires
 key_at-requires c =
-    let reached : to_z w128 (of_z w128 c.reach_of.result) ≡ c.reach_of.result = search rules in
+    let reached : to_z w64 (of_z w64 c.reach_of.result) ≡ c.reach_of.result = search rules in
     let weighs : to_z w64 (of_z w64 c.args.weight) ≡ c.args.weight = search rules in
     record { reach = subst IsReach (sym reached) c.reach_of.ensures.in_range; weight = subst IsWeight (sym weighs) c.requires.weight }

@@ -1,4 +1,4 @@
-use Rattle.alt_forest.proofs.Common.{ints, arith, ◌≡◌, ◌≢◌, ℤ, Some, None, subst, sym, rules, to_z, of_z, both_ways, w64, w128, state_of, IsWeight, leads_weight, leads_vertex}
+use Rattle.alt_forest.proofs.Common.{ints, arith, ◌≡◌, ◌≢◌, ℤ, Some, None, subst, sym, rules, to_z, of_z, both_ways, w64, state_of, IsWeight, leads_weight, leads_vertex}
 use Rattle.event_bounds.specs.Keys.{IsKeyTo, IsLow}
 use Rattle.event_bounds.proofs.Lower.{giving_of, no_lower_none, no_lower_some}
 use Rattle.event_bounds.proofs.keys.lesser.Goals.{In-Some}
@@ -10,7 +10,7 @@ to_key c =
     let s = c.args.search.now in let weighs : to_z w64 (of_z w64 c.args.incident.now.weight) ≡ c.args.incident.now.weight = search rules in
     subst (λ (w : ℤ). IsKeyTo (state_of s) s.clock c.args.node c.args.incident.now.far w (Some c.in-Some.key)) weighs c.in-Some.ensures
 
-key_back : (c : In-Some) → to_z w128 (of_z w128 c.in-Some.key) ≡ c.in-Some.key
+key_back : (c : In-Some) → to_z w64 (of_z w64 c.in-Some.key) ≡ c.in-Some.key
 key_back c = search rules
 
 pub returns-in_default-clause-here : goal.returns-in_default-clause-here
@@ -28,7 +28,7 @@ returns-then-not-is_less-clause-here c =
 pub returns : goal.returns
 returns c =
     let s = c.args.search.now in let p = c.args.incident.now in let at = (goal.at.returns c).In-Some in
-    let k : ℤ = to_z w128 (of_z w128 c.in-Some.key) in let some : p.edge ≢ 0 = λ none. omega (arith, c.requires.incident.number.0, none) in
+    let k : ℤ = to_z w64 (of_z w64 c.in-Some.key) in let some : p.edge ≢ 0 = λ none. omega (arith, c.requires.incident.number.0, none) in
     record {
       from = λ _. giving_of (state_of s) s.clock c.args.v c.args.node p.edge p.far p.weight c.in-Some.key k c.requires.incident c.requires.node (to_key at) (key_back at);
       here = no_lower_some (state_of s) s.clock c.args.v c.args.node _ p.edge p.far p.weight c.in-Some.key c.requires.incident (to_key at)

@@ -1,4 +1,4 @@
-use Rattle.graph_theory.proofs.Common.{◌≡◌, ◌∙◌, ◌-◌, ℕ, ℤ, ap, refl, subst, arith, rules, to_z, of_z, w128}
+use Rattle.graph_theory.proofs.Common.{◌≡◌, ◌∙◌, ◌-◌, ℕ, ℤ, ap, refl, subst, arith, rules, to_z, of_z, w64}
 use Rattle.edge_queue.specs.declared.buckets.Buckets.{Buckets}
 use Rattle.edge_queue.specs.Rising.{IsFound, IsSpread, end_at}
 use Rattle.edge_queue.proofs.Filings.{gathered_found, none_has, refile_starts}
@@ -19,12 +19,12 @@ spread-requires-clause-after c = omega (arith, (c.in-Some.ensures.some c.require
 pub refile-requires : goal.refile-requires
 refile-requires c =
     let low = c.in-Some.ensures.some c.requires.home c.requires.homed in let b = c.gather-least.new.self in
-    let kept : to_z w128 (of_z w128 c.gather-least.result) ≡ c.gather-least.result = search rules in
+    let kept : to_z w64 (of_z w64 c.gather-least.result) ≡ c.gather-least.result = search rules in
     refile_starts b (record b { ends = c.spread.new.ends }) c.in-Some.list c.gather-least.result refl low.low low.high c.gather-least.ensures.gathered
     (subst (λ (z : ℤ). IsSpread b.ends.items c.spread.new.ends.items z (c.in-Some.list - 1)) kept c.spread.ensures)
 
 pub returns-clause-found : goal.returns-clause-found
 returns-clause-found c = λ s m is.
-    let kept : to_z w128 (of_z w128 c.gather-least.result) ≡ c.gather-least.result = search rules in
+    let kept : to_z w64 (of_z w64 c.gather-least.result) ≡ c.gather-least.result = search rules in
     gathered_found c.gather-least.new.self c.refile.new.self c.in-Some.list c.gather-least.result c.gather-least.ensures.gathered (ap (λ (y : Buckets). y.slots) c.refile.ensures.rest)
     c.refile.ensures.moments (ap (λ (y : Buckets). end_at y.ends.items 0) c.refile.ensures.rest ∙ c.spread.ensures.first ∙ kept)

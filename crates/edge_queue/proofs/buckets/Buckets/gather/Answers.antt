@@ -1,4 +1,4 @@
-use Rattle.graph_theory.proofs.Common.{◌≡◌, ◌∙◌, pos, refl, ap, arith, ints, rules, get_or_read, to_z, of_z, w128, inl, inr, ⊎_elim}
+use Rattle.graph_theory.proofs.Common.{◌≡◌, ◌∙◌, pos, refl, ap, arith, ints, rules, get_or_read, to_z, of_z, w64, inl, inr, ⊎_elim}
 use Rattle.edge_queue.specs.declared.buckets.Buckets.{Buckets}
 use Rattle.edge_queue.specs.Rising.{kept_moment}
 use Rattle.edge_queue.proofs.Filings.{gather_ends, gather_starts, gather_steps, none_left, some_is}
@@ -10,7 +10,7 @@ index-least-requires c = let f = c.requires.filed in omega (arith, (c.requires.l
 pub loop-init : goal.loop-init
 loop-init c =
     let b = c.args.self.now in let f = c.requires.filed in let low = c.requires.lowest f.home f.homed in
-    let kept : to_z w128 (of_z w128 c.index-least.result.now) ≡ c.index-least.result.now = search rules in
+    let kept : to_z w64 (of_z w64 c.index-least.result.now) ≡ c.index-least.result.now = search rules in
     record {
       gathering = gather_starts b f c.args.list c.args.slot _ low c.requires.first
           (kept ∙ get_or_read b.moments.items c.args.slot c.index-least.result.now (omega (arith, low.within, f.homed.moments)) c.index-least.ensures (pos 0));
@@ -32,8 +32,8 @@ pub loop-preserved : goal.loop-preserved
 loop-preserved c =
     let l = c.loop in let g = l.invariant.gathering in let f = c.requires.filed in let found = c.in-Some.ensures.some g.home g.homed in
     let x = c.in-Some.next in let some = some_is g.home x c.args.list found.1 in let r = c.lesser-least.ensures in
-    let kept : to_z w128 (of_z w128 c.lesser-least.result) ≡ c.lesser-least.result = search rules in
-    let whole : to_z w128 (of_z w128 c.index.result.now) ≡ c.index.result.now = search rules in
+    let kept : to_z w64 (of_z w64 c.lesser-least.result) ≡ c.lesser-least.result = search rules in
+    let whole : to_z w64 (of_z w64 c.index.result.now) ≡ c.index.result.now = search rules in
     let read : c.index.result.now ≡ kept_moment l.self x = get_or_read l.self.moments.items x c.index.result.now (omega (arith, found.0, g.homed.moments)) c.index.ensures (pos 0) in
     record {
       gathering = gather_steps l.self c.shift.new.self c.args.list _ _ l.counter x g (c.requires.lowest f.home f.homed).high c.shift.ensures.rest found.1

@@ -1,4 +1,4 @@
-use Rattle.graph_theory.proofs.Common.{◌≡◌, ◌∙◌, ap, sym, subst, arith, rules, List, ℤ, ◌-◌, ◌+◌, set, to_z, of_z, w128}
+use Rattle.graph_theory.proofs.Common.{◌≡◌, ◌∙◌, ap, sym, subst, arith, rules, List, ℤ, ◌-◌, ◌+◌, set, to_z, of_z, w64}
 use Rattle.edge_queue.proofs.buckets.Buckets.give.Goals.{After-note}
 use Rattle.circular_lists.specs.Linked.{HasLinks, link_at}
 use Rattle.edge_queue.specs.declared.buckets.Buckets.{Buckets}
@@ -9,14 +9,14 @@ use Rattle.edge_queue.proofs.buckets.Buckets.give.Goals as goal
 
 items : (c : After-note) → c.note.new.self.moments.items ≡ set c.args.self.now.moments.items c.args.slot c.args.moment
 items c =
-    let kept : to_z w128 (of_z w128 c.args.moment) ≡ c.args.moment = search rules in
+    let kept : to_z w64 (of_z w64 c.args.moment) ≡ c.args.moment = search rules in
     c.note.ensures.items ∙ ap (λ (z : ℤ). set c.args.self.now.moments.items c.args.slot z) kept
 
 pub file-requires : goal.file-requires
 file-requires c =
     let b = c.args.self.now in let f = c.requires.filed in let rest = sym c.note.ensures.rest in
     record {
-      links = subst (λ (y : Buckets). HasLinks y.lists (y.slots + 131)) rest f.homed.links;
+      links = subst (λ (y : Buckets). HasLinks y.lists (y.slots + 67)) rest f.homed.links;
       slot = omega (arith, ap (λ (y : Buckets). y.slots) c.note.ensures.rest, c.requires.slot);
       list = omega (arith, c.list_of-list.ensures.within);
       alone = ap (λ (y : Buckets). link_at y.lists.next.items c.args.slot) c.note.ensures.rest
@@ -27,12 +27,12 @@ pub returns-clause-filed : goal.returns-clause-filed
 returns-clause-filed c =
     let b = c.args.self.now in let a = c.note.new.self in let f = c.requires.filed in let n = c.note.ensures in
     let none = none_home b f.home f.homed c.args.slot c.requires.slot c.requires.none in let is = items (goal.at.returns-clause-filed c).After-note in
-    let kept : to_z w128 (of_z w128 c.args.moment) ≡ c.args.moment = search rules in
+    let kept : to_z w64 (of_z w64 c.args.moment) ≡ c.args.moment = search rules in
     filed_with b a c.file.new.self c.args.slot c.list_of-list.result c.args.moment f c.requires.slot n.rest is c.file.ensures.rest
     (c.file.ensures.homed f.home (written b a c.file.new.self c.args.slot c.list_of-list.result c.args.moment f c.requires.slot n.rest is
     (n.moments ∙ f.homed.moments) (n.early ∙ f.homed.early)) none)
     (subst (λ (z : ℤ). IsInBucket b.ends.items (c.list_of-list.result - 1) z) kept
-    (subst (λ (es : List ℤ). IsInBucket es (c.list_of-list.result - 1) (to_z w128 (of_z w128 c.args.moment))) c.deref.ensures.value c.list_of-list.ensures))
+    (subst (λ (es : List ℤ). IsInBucket es (c.list_of-list.result - 1) (to_z w64 (of_z w64 c.args.moment))) c.deref.ensures.value c.list_of-list.ensures))
 
 pub returns-clause-moments : goal.returns-clause-moments
 returns-clause-moments c =

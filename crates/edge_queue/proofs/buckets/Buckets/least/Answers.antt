@@ -1,4 +1,4 @@
-use Rattle.graph_theory.proofs.Common.{◌≡◌, ◌∙◌, ℕ, ℤ, pos, List, Option, Some, sym, subst, arith, rules, get_or_read, to_z, of_z, w128}
+use Rattle.graph_theory.proofs.Common.{◌≡◌, ◌∙◌, ℕ, ℤ, pos, List, Option, Some, sym, subst, arith, rules, get_or_read, to_z, of_z, w64}
 use Rattle.edge_queue.specs.Slots.{IsLeastSlot}
 use Rattle.edge_queue.specs.Rising.{end_at, moments_of}
 use Rattle.edge_queue.proofs.Filings.{found_is_least}
@@ -7,7 +7,7 @@ use Rattle.edge_queue.proofs.buckets.Buckets.least.Goals as goal
 pub returns-clause-least : goal.returns-clause-least
 returns-clause-least c =
     let b = c.advance.new.self in let slot : ℕ = c.in_ok-slot.slot in
-    let kept : to_z w128 (of_z w128 c.index.result.now) ≡ c.index.result.now = search rules in
+    let kept : to_z w64 (of_z w64 c.index.result.now) ≡ c.index.result.now = search rules in
     let read : c.index.result.now ≡ end_at b.ends.items 0 = get_or_read b.ends.items 0 c.index.result.now (omega (arith, c.advance.ensures.filed.ends.size)) c.index.ensures (pos 0) in
     subst (λ (z : ℤ). IsLeastSlot (moments_of c.args.self.now) (Some (slot, z))) (sym (kept ∙ read))
     (subst (λ (ms : List (Option ℤ)). IsLeastSlot ms (Some (slot, end_at b.ends.items 0))) c.advance.ensures.moments

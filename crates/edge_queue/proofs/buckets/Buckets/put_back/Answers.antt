@@ -1,4 +1,4 @@
-use Rattle.graph_theory.proofs.Common.{◌≡◌, ◌∙◌, true, false, pos, is_some, sym, arith, ints, rules, get_or_read, to_z, of_z, w128}
+use Rattle.graph_theory.proofs.Common.{◌≡◌, ◌∙◌, true, false, pos, is_some, sym, arith, ints, rules, get_or_read, to_z, of_z, w64}
 use Rattle.edge_queue.specs.Rising.{kept_moment, moment_at}
 use Rattle.edge_queue.proofs.Homes.{listed_home}
 use Rattle.edge_queue.proofs.Settings.{listed_some, lower_skips, lower_steps}
@@ -17,16 +17,16 @@ returns-then-not-is_listed-clause-lowering c =
 pub returns-then-index-last-clause-lowering : goal.returns-then-index-last-clause-lowering
 returns-then-index-last-clause-lowering c =
     let at = read (goal.at.returns-then-index-last-clause-lowering c).After-index in
-    let one : to_z w128 (of_z w128 c.index.result.now) ≡ c.index.result.now = search rules in
-    let other : to_z w128 (of_z w128 c.args.last) ≡ c.args.last = search rules in
+    let one : to_z w64 (of_z w64 c.index.result.now) ≡ c.index.result.now = search rules in
+    let other : to_z w64 (of_z w64 c.args.last) ≡ c.args.last = search rules in
     lower_skips c.args.self.now c.args.last c.args.slot c.requires.lowering (λ some is. absurd (omega (arith, ints, at, is, one, other, c.if-index-last.true)))
 
 pub returns-clause-lowering : goal.returns-clause-lowering
 returns-clause-lowering c =
     let b = c.args.self.now in let w = c.requires.lowering in let at = read (goal.at.returns-clause-lowering c).After-index in
     let some : is_some (moment_at b c.args.slot) ≡ true = search rules in
-    let one : to_z w128 (of_z w128 c.index.result.now) ≡ c.index.result.now = search rules in
-    let other : to_z w128 (of_z w128 c.args.last) ≡ c.args.last = search rules in
+    let one : to_z w64 (of_z w64 c.index.result.now) ≡ c.index.result.now = search rules in
+    let other : to_z w64 (of_z w64 c.args.last) ≡ c.args.last = search rules in
     lower_steps b c.shift.new.self c.args.last c.args.slot w c.shift.ensures.rest (omega (arith, ints, at, one, other, c.if-index-last.false))
     (c.shift.ensures.homed w.home w.homed (listed_some b w.home c.args.slot w.homed c.requires.slot some))
 

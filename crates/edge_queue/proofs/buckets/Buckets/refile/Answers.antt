@@ -1,4 +1,4 @@
-use Rattle.graph_theory.proofs.Common.{◌≡◌, ◌∙◌, ◌-◌, ℤ, pos, List, ap, subst, arith, ints, rules, get_or_read, to_z, of_z, w128}
+use Rattle.graph_theory.proofs.Common.{◌≡◌, ◌∙◌, ◌-◌, ℤ, pos, List, ap, subst, arith, ints, rules, get_or_read, to_z, of_z, w64}
 use Rattle.edge_queue.specs.declared.buckets.Buckets.{Buckets}
 use Rattle.edge_queue.specs.Rising.{IsInBucket, end_at, kept_moment}
 use Rattle.edge_queue.proofs.Filings.{none_left, refile_ends, refile_steps, some_is, waits_after}
@@ -16,7 +16,7 @@ index-requires-in-loop c = let r = c.loop.invariant.refiling in omega (arith, (c
 pub list_of-list-requires-clause-low : goal.list_of-list-requires-clause-low
 list_of-list-requires-clause-low c =
     let l = c.loop in let r = l.invariant.refiling in let x = c.in-Some.slot in let found = c.in-Some.ensures.some r.home r.homed in
-    let whole : to_z w128 (of_z w128 c.index.result.now) ≡ c.index.result.now = search rules in
+    let whole : to_z w64 (of_z w64 c.index.result.now) ≡ c.index.result.now = search rules in
     let read : c.index.result.now ≡ kept_moment l.self x = get_or_read l.self.moments.items x c.index.result.now (omega (arith, found.0, r.homed.moments)) c.index.ensures (pos 0) in
     omega (arith, ints, whole, read, ap (λ (es : List ℤ). end_at es 0) c.deref.ensures.value, waits_after l.self l.counter x r found.1)
 
@@ -25,12 +25,12 @@ shift-requires-clause-slot c = let r = c.loop.invariant.refiling in (c.in-Some.e
 
 pub loop-preserved : goal.loop-preserved
 loop-preserved c =
-    let l = c.loop in let r = l.invariant.refiling in let x = c.in-Some.slot in let found = c.in-Some.ensures.some r.home r.homed in let some = some_is r.home x 130 found.1 in
-    let whole : to_z w128 (of_z w128 c.index.result.now) ≡ c.index.result.now = search rules in
+    let l = c.loop in let r = l.invariant.refiling in let x = c.in-Some.slot in let found = c.in-Some.ensures.some r.home r.homed in let some = some_is r.home x 66 found.1 in
+    let whole : to_z w64 (of_z w64 c.index.result.now) ≡ c.index.result.now = search rules in
     let read : c.index.result.now ≡ kept_moment l.self x = get_or_read l.self.moments.items x c.index.result.now (omega (arith, found.0, r.homed.moments)) c.index.ensures (pos 0) in
     let fits : IsInBucket l.self.ends.items (c.list_of-list.result - 1) (kept_moment l.self x) =
     subst (λ (z : ℤ). IsInBucket l.self.ends.items (c.list_of-list.result - 1) z) (whole ∙ read)
-    (subst (λ (es : List ℤ). IsInBucket es (c.list_of-list.result - 1) (to_z w128 (of_z w128 c.index.result.now))) c.deref.ensures.value c.list_of-list.ensures) in
+    (subst (λ (es : List ℤ). IsInBucket es (c.list_of-list.result - 1) (to_z w64 (of_z w64 c.index.result.now))) c.deref.ensures.value c.list_of-list.ensures) in
     record {
       refiling = refile_steps l.self c.shift.new.self l.counter x c.list_of-list.result r c.shift.ensures.rest found.1 fits (c.shift.ensures.homed r.home r.homed some);
       moments = c.shift.ensures.moments r.home r.homed some ∙ l.invariant.moments;
@@ -41,4 +41,4 @@ pub returns-clause-filed : goal.returns-clause-filed
 returns-clause-filed c =
     let l = c.loop in let r = l.invariant.refiling in
     let slots : l.self.slots ≡ c.args.self.now.slots = ap (λ (y : Buckets). y.slots) l.invariant.rest in
-    refile_ends l.self l.counter r (none_left l.self r.home 130 l.counter r.homed r.few (omega (arith, slots, c.loop-test.false)))
+    refile_ends l.self l.counter r (none_left l.self r.home 66 l.counter r.homed r.few (omega (arith, slots, c.loop-test.false)))

@@ -1,4 +1,4 @@
-use Rattle.graph_theory.proofs.Common.{◌≡◌, ◌∙◌, ◌<◌, ℤ, List, Option, Some, None, ap, sym, arith, get_or, set, get_or-set_same, rules, to_z, of_z, w128}
+use Rattle.graph_theory.proofs.Common.{◌≡◌, ◌∙◌, ◌<◌, ℤ, List, Option, Some, None, ap, sym, arith, get_or, set, get_or-set_same, rules, to_z, of_z, w64}
 use Rattle.std.proofs.lemmas.List.{set-set}
 use Rattle.edge_queue.specs.Rising.{moments_of}
 use Rattle.edge_queue.proofs.Homes.{count_of_slots, moment_of_slot}
@@ -7,7 +7,7 @@ use Rattle.edge_queue.proofs.buckets.Buckets.set.Goals as goal
 
 pub returns-then-has-clause-moments : goal.returns-then-has-clause-moments
 returns-then-has-clause-moments c =
-    let kept : to_z w128 (of_z w128 c.args.moment) ≡ c.args.moment = search rules in
+    let kept : to_z w64 (of_z w64 c.args.moment) ≡ c.args.moment = search rules in
     some_given c.args.self.now c.args.slot c.args.moment c.requires.slot (c.has.ensures c.if-has.true ∙ ap (λ (z : ℤ). let o : Option ℤ = Some z in o) kept)
 
 pub give-requires-clause-none : goal.give-requires-clause-none
@@ -20,5 +20,5 @@ give-requires-clause-none c =
 pub returns-clause-moments : goal.returns-clause-moments
 returns-clause-moments c =
     let b = c.args.self.now in let m : Option ℤ = Some c.args.moment in
-    let kept : to_z w128 (of_z w128 c.args.moment) ≡ c.args.moment = search rules in
+    let kept : to_z w64 (of_z w64 c.args.moment) ≡ c.args.moment = search rules in
     c.give.ensures.moments ∙ ap (λ (z : ℤ). set (moments_of c.lower.new.self) c.args.slot (let o : Option ℤ = Some z in o)) kept ∙ ap (λ (ms : List (Option ℤ)). set ms c.args.slot m) (c.lower.ensures.moments ∙ c.remove.ensures.moments) ∙ set-set (moments_of b) c.args.slot None m

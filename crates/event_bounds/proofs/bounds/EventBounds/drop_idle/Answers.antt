@@ -13,6 +13,7 @@ returns-clause-bounding c =
     subst (IsBounding s) (sym c.remove.ensures) (record {
       low = h.low;
       high = h.high;
+      near = h.near;
       places = places_with s.graph b a None h.places;
       hints = h.hints;
       keys = λ e v u w to unnoted outer apart. let k = h.keys e v u w to unnoted outer apart in record { key = k.key; has = k.has; low = k.low };

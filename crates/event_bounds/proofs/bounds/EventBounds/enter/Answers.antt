@@ -1,4 +1,4 @@
-use Rattle.alt_forest.proofs.Common.{◌≡◌, ◌≢◌, ◌∙◌, ℕ, ℤ, true, is_some, Option, Some, None, refl, sym, ap, subst, rules, to_z, of_z, w128, outermost, Label, Moments}
+use Rattle.alt_forest.proofs.Common.{◌≡◌, ◌≢◌, ◌∙◌, ℕ, ℤ, true, is_some, Option, Some, None, refl, sym, ap, subst, rules, to_z, of_z, w64, outermost, Label, Moments}
 use Rattle.alt_forest.proofs.Common.{with_moment, same_Some, IsItem, dual_sum, is_vertex, state_of, Multigraph, Outer, Inner, Out}
 use Rattle.alt_forest.specs.declared.search.Search.{Search}
 use Rattle.std.proofs.Common.{true≢false}
@@ -69,7 +69,7 @@ returns-in_default-comes_up c =
     let s = c.args.search.now in let b = c.args.self.now in let v : ℕ = c.args.v in
     let d : EventBounds = c.remove-in_default-comes_up.new.self in let r = c.requires in
     let is = c.remove-in_default-comes_up.ensures in let place : ℕ = c.new-place.result in
-    let key : to_z w128 (of_z w128 c.in-Some.key) ≡ c.in-Some.key = search rules in let at : place ≡ v = c.new-place.ensures ∙ c.number.ensures in
+    let key : to_z w64 (of_z w64 c.in-Some.key) ≡ c.in-Some.key = search rules in let at : place ≡ v = c.new-place.ensures ∙ c.number.ensures in
     let entered : IsBoundEntered (state_of s) s.clock d v =
     set_comes ((state_of s).label (outermost s.arena.blossoms v)) c.label-label.result (dual_sum (state_of s) v) s.clock (key_of d v) c.key.result c.in-Some.key None (bound_of d.moments v)
     (c.label-label.ensures.label ∙ ap (state_of s).label c.outermost-node.ensures.node) (c.key.ensures ∙ ap (λ (x : EventBounds). key_of x v) (sym is)) c.in-Some.is
@@ -81,10 +81,10 @@ returns-in_default-comes_up c =
 pub comes_up-requires : goal.comes_up-requires
 comes_up-requires c =
     let b = c.args.self.now in let v : ℕ = c.args.v in let r = c.requires in
-    let key : to_z w128 (of_z w128 c.in-Some.key) ≡ c.in-Some.key = search rules in
+    let key : to_z w64 (of_z w64 c.in-Some.key) ≡ c.in-Some.key = search rules in
     let some : hint_of b v ≢ 0 = λ none. true≢false (ap (λ (x : Option ℤ). is_some x) (sym c.in-Some.is ∙ c.key.ensures ∙ key_none b v none)) in
     let is : kept_key b v ≡ c.in-Some.key = same_Some (kept_key b v) c.in-Some.key (sym (key_there b v some) ∙ sym c.key.ensures ∙ c.in-Some.is) in
-    record { sound = r.sound; low = r.low; high = r.high; vertex = r.vertex; key = subst IsKey (is ∙ sym key) (r.hints v r.vertex some).2 }
+    record { sound = r.sound; low = r.low; high = r.high; near = r.near; vertex = r.vertex; key = subst IsKey (is ∙ sym key) (r.hints v r.vertex some).2 }
 
 pub comes_early-early-requires-clause-hint : goal.comes_early-early-requires-clause-hint
 comes_early-early-requires-clause-hint c = λ none. true≢false (ap (λ (x : Option ℤ). is_some x) (sym c.in-Some.is ∙ c.key.ensures ∙ key_none c.args.self.now c.args.v none))
@@ -95,8 +95,8 @@ set_moment-requires c = item_at c.args.search.now.graph c.args.self.now c.args.v
 pub returns : goal.returns
 returns c =
     let s = c.args.search.now in let b = c.args.self.now in let v : ℕ = c.args.v in let d : EventBounds = record b { moments = c.set_moment.new.moments } in
-    let m : ℤ = to_z w128 (of_z w128 c.in-Some-comes_up.moment) in let back : m ≡ c.in-Some-comes_up.moment = search rules in
-    let key : to_z w128 (of_z w128 c.in-Some.key) ≡ c.in-Some.key = search rules in
+    let m : ℤ = to_z w64 (of_z w64 c.in-Some-comes_up.moment) in let back : m ≡ c.in-Some-comes_up.moment = search rules in
+    let key : to_z w64 (of_z w64 c.in-Some.key) ≡ c.in-Some.key = search rules in
     let at : c.new-place.result ≡ v = c.new-place.ensures ∙ c.number.ensures in
     let is : d ≡ record b { moments = with_moment b.moments (OfNode c.new-place.result) (Some m) } =
     ap (λ (q : Moments). let x : EventBounds = record b { moments = q } in x) c.set_moment.ensures in

@@ -1,4 +1,4 @@
-use Rattle.alt_forest.proofs.Common.{◌≡◌, ◌≢◌, ◌∙◌, ℤ, ◌≤ℤ◌, true, is_some, Option, Some, refl, sym, ap, ap₂, same_Some, rules, to_z, of_z, w128, arith, ints, lt_z}
+use Rattle.alt_forest.proofs.Common.{◌≡◌, ◌≢◌, ◌∙◌, ℤ, ◌≤ℤ◌, true, is_some, Option, Some, refl, sym, ap, ap₂, same_Some, rules, to_z, of_z, w64, arith, ints, lt_z}
 use Rattle.alt_forest.proofs.Common.{nat_tests}
 use Rattle.std.proofs.Common.{true≢false}
 use Rattle.event_bounds.specs.Bounds.{key_of}
@@ -13,8 +13,8 @@ not_lower k l other = grind (arith, ints, nat_tests)
 
 pub returns-in-Some : goal.returns-in-Some
 returns-in-Some c =
-    let own : to_z w128 (of_z w128 c.args.key) ≡ c.args.key = search rules in
-    let kept : to_z w128 (of_z w128 c.in-Some.least) ≡ c.in-Some.least = search rules in
+    let own : to_z w64 (of_z w64 c.args.key) ≡ c.args.key = search rules in
+    let kept : to_z w64 (of_z w64 c.in-Some.least) ≡ c.in-Some.least = search rules in
     let is : key_of c.args.self.now c.args.v ≡ Some c.in-Some.least = sym c.key.ensures ∙ c.in-Some.is in let test = ap₂ lt_z own kept in
     record {
       lower = λ less k h. lower_than c.args.key c.in-Some.least h.key k (sym test ∙ less) (same_Some c.in-Some.least h.key (sym is ∙ h.has)) h.low;

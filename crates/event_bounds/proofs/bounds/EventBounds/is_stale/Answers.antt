@@ -1,6 +1,6 @@
 use Rattle.alt_forest.proofs.Common.{◌≡◌, ◌∙◌, ◌≢◌, ℕ, ◌<◌, pos, length, Some, vec_len, get_or, sym, ap, ap₂, subst, rules, arith, to_z, of_z, get_or_read, w64}
 use Rattle.alt_forest.proofs.Common.{lt_z, edge_of, other_end, state_of, true, Multigraph, IsEdgeNumber, IsWeight, edge_of-weight, is_vertex}
-use Rattle.alt_forest.proofs.Common.{w128, edge_of_within, other_end-within, range_vertex}
+use Rattle.alt_forest.proofs.Common.{edge_of_within, other_end-within, range_vertex}
 use Rattle.event_bounds.specs.declared.bounds.EventBounds.{EventBounds}
 use Rattle.event_bounds.specs.Bounds.{HasHints, hint_of, kept_key, key_from}
 use Rattle.event_bounds.specs.Looks.{is_stale}
@@ -12,8 +12,8 @@ use Rattle.event_bounds.proofs.bounds.EventBounds.is_stale.Goals as goal
 pub returns-in-Some : goal.returns-in-Some
 returns-in-Some c =
     let s = c.args.search.now in let b = c.args.self.now in let v : ℕ = c.args.v in let e : ℕ = hint_of b v in
-    let back : to_z w128 (of_z w128 c.in-Some.key) ≡ c.in-Some.key = search rules in
-    let kept : to_z w128 (of_z w128 c.index.result.now) ≡ c.index.result.now = search rules in
+    let back : to_z w64 (of_z w64 c.in-Some.key) ≡ c.in-Some.key = search rules in
+    let kept : to_z w64 (of_z w64 c.index.result.now) ≡ c.index.result.now = search rules in
     let weighs : to_z w64 (of_z w64 c.edge-weight.result.2) ≡ c.edge-weight.result.2 = search rules in
     let at : c.number-in-Some.result ≡ v = c.number-in-Some.ensures in let size : vec_len b.keys ≡ length b.keys.items = search rules in
     let low : v < length b.keys.items = omega (arith, size, key_place s.graph b v c.requires.bounding.places c.requires.vertex) in

@@ -1,4 +1,4 @@
-use Rattle.alt_forest.proofs.Common.{◌≡◌, ◌∙◌, ℕ, ℤ, ap, subst, arith, rules, to_z, of_z, w128, edges_around, Moments, incidence_around, incident_count}
+use Rattle.alt_forest.proofs.Common.{◌≡◌, ◌∙◌, ℕ, ℤ, ap, subst, arith, rules, to_z, of_z, w64, edges_around, Moments, incidence_around, incident_count}
 use Rattle.event_bounds.specs.declared.bounds.EventBounds.{EventBounds}
 use Rattle.event_bounds.specs.Bounds.{bound_of, hint_of, key_of}
 use Rattle.event_bounds.specs.Keys.{IsGiven}
@@ -9,12 +9,13 @@ use Rattle.event_bounds.proofs.bounds.EventBounds.look_anew.Goals as goal
 pub enter-requires : goal.enter-requires
 enter-requires g c =
     let s = c.args.search.now in let b = c.args.self.now in let h = c.requires.bounding in let least = c.least_key-least.result in
-    let back : to_z w128 (of_z w128 c.least_key-least.result.key) ≡ c.least_key-least.result.key = search rules in
+    let back : to_z w64 (of_z w64 c.least_key-least.result.key) ≡ c.least_key-least.result.key = search rules in
     let given = subst (λ (k : ℤ). IsGiven b c.give.new.self c.args.v least.edge k) back c.give.ensures in
     record {
       sound = c.requires.sound;
       low = h.low;
       high = h.high;
+      near = h.near;
       vertex = c.requires.vertex;
       places = places_given s.graph b c.give.new.self c.args.v least.edge _ c.give.ensures h.places;
       hints = hints_given s.graph b c.give.new.self c.args.v least.edge least.key given (λ some. giving_parts s c.args.v least (c.least_key-least.ensures.from some)) h.hints;
@@ -28,7 +29,7 @@ give-requires g c =
 pub returns : goal.returns
 returns g c =
     let s = c.args.search.now in let b = c.args.self.now in let v : ℕ = c.args.v in let least = c.least_key-least.result in
-    let back : to_z w128 (of_z w128 least.key) ≡ least.key = search rules in
+    let back : to_z w64 (of_z w64 least.key) ≡ least.key = search rules in
     let given = subst (λ (k : ℤ). IsGiven b c.give.new.self v least.edge k) back c.give.ensures in let call = c.enter.ensures in
     let list = incidence_around s v c.at-edges.result.now c.requires.sound.shape c.requires.vertex c.at-edges.ensures.list in
     record {

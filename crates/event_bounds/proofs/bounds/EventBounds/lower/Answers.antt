@@ -1,5 +1,5 @@
 use Rattle.alt_forest.proofs.Common.{◌≡◌, ◌≢◌, ◌∙◌, ℕ, ℤ, pos, ◌*ℤ◌, ◌-ℤ◌, ◌≤ℤ◌, true, cond, sym, ap, ap₂, subst, arith, rules, to_z, of_z}
-use Rattle.alt_forest.proofs.Common.{IsWeight, leads_weight, both_ways, ints, w64, w128, edge_of, is_vertex, outermost, is_given, state_of, leads_vertex}
+use Rattle.alt_forest.proofs.Common.{IsWeight, leads_weight, both_ways, ints, w64, edge_of, is_vertex, outermost, is_given, state_of, leads_vertex}
 use Rattle.event_bounds.specs.declared.bounds.EventBounds.{EventBounds}
 use Rattle.event_bounds.specs.Bounds.{HasHints, IsKey, IsKeyed, kept_key, key_from, key_of}
 use Rattle.event_bounds.specs.Keys.{IsGiven, IsReach}
@@ -15,22 +15,22 @@ far_vertex c =
     leads_vertex s.graph c.args.incident.now.edge c.args.giver.now.vertex c.args.incident.now.far c.args.incident.now.weight c.requires.sound.shape.graph.graph c.requires.incident
 
 -- the key that is computed is that which the edge gives
-key_is : (c : After-key_at-key) → to_z w128 (of_z w128 c.key_at-key.result)
+key_is : (c : After-key_at-key) → to_z w64 (of_z w64 c.key_at-key.result)
     ≡ key_from (state_of c.args.search.now) c.args.search.now.clock c.args.giver.now.vertex c.args.incident.now.weight
 key_is c =
-    let s = c.args.search.now in let back : to_z w128 (of_z w128 c.key_at-key.result) ≡ c.key_at-key.result = search rules in
+    let s = c.args.search.now in let back : to_z w64 (of_z w64 c.key_at-key.result) ≡ c.key_at-key.result = search rules in
     let weighs : to_z w64 (of_z w64 c.args.incident.now.weight) ≡ c.args.incident.now.weight = search rules in
-    let reached : to_z w128 (of_z w128 c.args.giver.now.reach) ≡ c.args.giver.now.reach = search rules in
+    let reached : to_z w64 (of_z w64 c.args.giver.now.reach) ≡ c.args.giver.now.reach = search rules in
     back ∙ c.key_at-key.ensures.key ∙ ap₂ (λ (w r : ℤ). cond (is_given s.weights) (pos 2 *ℤ w) (pos 0) -ℤ r) weighs (reached ∙ c.requires.giver.reach)
 
 -- the edge is one at its far end, and its key in range
-hints_after : (c : After-key_at-key) (d : EventBounds) → IsGiven c.args.self.now d c.args.incident.now.far c.args.incident.now.edge (to_z w128 (of_z w128 c.key_at-key.result))
+hints_after : (c : After-key_at-key) (d : EventBounds) → IsGiven c.args.self.now d c.args.incident.now.far c.args.incident.now.edge (to_z w64 (of_z w64 c.key_at-key.result))
     → HasHints c.args.search.now.graph c.args.self.now → HasHints c.args.search.now.graph d
 hints_after c d given hints =
     let s = c.args.search.now in let e : ℕ = c.args.incident.now.edge in
     let u : ℕ = c.args.incident.now.far in let v : ℕ = c.args.giver.now.vertex in let w : ℤ = c.args.incident.now.weight in
-    let back : to_z w128 (of_z w128 c.key_at-key.result) ≡ c.key_at-key.result = search rules in
-    hints_given s.graph c.args.self.now d u e (to_z w128 (of_z w128 c.key_at-key.result)) given
+    let back : to_z w64 (of_z w64 c.key_at-key.result) ≡ c.key_at-key.result = search rules in
+    hints_given s.graph c.args.self.now d u e (to_z w64 (of_z w64 c.key_at-key.result)) given
     (λ some. (c.requires.incident.number, leads_touch s.graph e u v w (leads_back s.graph e v u w c.requires.incident), subst IsKey (sym back) c.key_at-key.ensures.in_range)) hints
 
 pub is_lower-requires : goal.is_lower-requires
@@ -59,7 +59,7 @@ pub returns-clause-lowered : goal.returns-clause-lowered
 returns-clause-lowered c =
     let s = c.args.search.now in let e : ℕ = c.args.incident.now.edge in
     let u : ℕ = c.args.incident.now.far in let v : ℕ = c.args.giver.now.vertex in
-    let w : ℤ = c.args.incident.now.weight in let k : ℤ = to_z w128 (of_z w128 c.key_at-key.result) in
+    let w : ℤ = c.args.incident.now.weight in let k : ℤ = to_z w64 (of_z w64 c.key_at-key.result) in
     let shared = (goal.at.returns-clause-lowered c).After-key_at-key in let back = leads_back s.graph e v u w c.requires.incident in
     let apart : outermost s.arena.blossoms v ≢ outermost s.arena.blossoms u =
     λ p. c.if-number.false (c.number.ensures ∙ c.outermost.ensures.node ∙ sym p ∙ sym c.requires.giver.node ∙ sym c.number-2.ensures) in
@@ -88,7 +88,7 @@ returns-clause-keyed c = λ apart.
 pub key_at-key-requires : goal.key_at-key-requires
 key_at-key-requires c =
     let s = c.args.search.now in let w : ℤ = c.args.incident.now.weight in
-    let reached : to_z w128 (of_z w128 c.args.giver.now.reach) ≡ c.args.giver.now.reach = search rules in
+    let reached : to_z w64 (of_z w64 c.args.giver.now.reach) ≡ c.args.giver.now.reach = search rules in
     let weighs : to_z w64 (of_z w64 w) ≡ w = search rules in
     record {
       reach = subst IsReach (sym reached) c.requires.giver.in_range;
