@@ -1,6 +1,6 @@
 -- The vertices that name the sets of outermost nodes.
-use Rattle.graph_theory.proofs.Common.{◌≡◌, ℕ, true, List, sym, ap, ◌∙◌, FitsSigned, ℤ, ◌+ℤ◌, int_wrap, int_wrap_fits, holds}
-use Rattle.std.specs.Int.{w128}
+use Rattle.graph_theory.proofs.Common.{◌≡◌, ℕ, true, List, sym, ap, ◌∙◌, ℤ, ◌+ℤ◌, int_wrap, int_wrap-add_left, holds}
+use Rattle.std.specs.Int.{w64}
 use Rattle.blossom_arena.specs.Family.{Blossom, is_node, is_outermost, is_vertex, members_of, outermost, IsNested}
 use Rattle.blossom_arena.specs.Fields.{IsPlacement, inner_of}
 use Rattle.blossom_arena.specs.Placement.{Placement}
@@ -33,9 +33,9 @@ pub record HasPlace (p : Placement) (v o s : ℕ) (x : ℤ) : Type 0 where
   pub inner : p.inner v ≡ x
 
 pub each_placed : (n : ℕ) (core_of : ℕ → ℕ) (bs : List Blossom) (y : ℕ → ℤ) (p : Placement)
-    → ((v : ℕ) → is_vertex n v ≡ true → HasPlace p v (outermost bs v) (core_of (outermost bs v)) (inner_of y bs v)) → IsPlacement n core_of bs y p
+    → ((v : ℕ) → is_vertex n v ≡ true → HasPlace p v (outermost bs v) (core_of (outermost bs v)) (int_wrap w64 (inner_of y bs v))) → IsPlacement n core_of bs y p
 each_placed n core_of bs y p at = record { tops = λ v iv. (at v iv).top; inner = λ v iv. (at v iv).inner; sets = λ v iv. (at v iv).set }
 
--- a sum that fits is what wraps around to it
-pub wrapped : (x z sum : ℤ) → FitsSigned w128 sum → x +ℤ z ≡ sum → int_wrap w128 (x +ℤ z) ≡ sum
-wrapped x z sum fits e = ap (int_wrap w128) e ∙ int_wrap_fits w128 sum fits
+-- what is added to a part that has wrapped around is added to the part
+pub wrapped : (x part z sum : ℤ) → x ≡ int_wrap w64 part → part +ℤ z ≡ sum → int_wrap w64 (x +ℤ z) ≡ int_wrap w64 sum
+wrapped x part z sum is e = ap (λ t. int_wrap w64 (t +ℤ z)) is ∙ int_wrap-add_left w64 part z ∙ ap (int_wrap w64) e

@@ -128,7 +128,7 @@ module _ (a : Inside) (duals : DualTable) (partition : SetTables) (parents older
     placement_after =
         subst (IsPlacement n (core_at n kept) (without bs node) (dual_at a.duals.values)) (sym h.partition)
         (placement_dissolved n bs (core_at n a.kept) (core_at n kept) a.duals.values (placement_of a.partition) node (kept_of n a.kept node).run.core
-        (λ x. vertices_of a.followers.items (run_of n kept x)) s.family.few s.family.nested (λ x is. (node_run a s x is).core) s.family.duals.in_range named free s.partition
+        (λ x. vertices_of a.followers.items (run_of n kept x)) s.family.nested (λ x is. (node_run a s x is).core) named free s.partition
         (λ x r.
         ap (vertices_of a.followers.items) (other_run n a.kept kept node x h.updates above (ring_other bs node x free r))
         ∙ (node_run a s x (child_is_node n bs x s.family.nested (ring_child bs node x r))).vertices)

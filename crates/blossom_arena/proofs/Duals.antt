@@ -1,6 +1,6 @@
 -- What a change of one dual keeps.
 use Rattle.graph_theory.proofs.Common.{nat_tests, ◌≡◌, ℕ, ◌+◌, ◌<◌, true, eqb, List, length, sym, ap, ◌∙◌, subst, arith, ◌≢◌, ℤ, pos, ◌+ℤ◌, ◌≤ℤ◌}
-use Rattle.graph_theory.proofs.Common.{slice_set, All, slice_index_or, eqb-true, cond_both, length-set, get_or_default, All-set, IsNumber}
+use Rattle.graph_theory.proofs.Common.{slice_set, slice_index_or, eqb-true, cond_both, length-set, get_or_default, All-set, IsNumber}
 use Rattle.blossom_arena.proofs.Parents.{parent_child}
 use Rattle.blossom_arena.proofs.Asked.{outer_test}
 use Rattle.blossom_arena.proofs.Marks.{parent_at}
@@ -94,5 +94,5 @@ module _ (a : Inside) (f : Family) (x y : ℕ) (d : ℤ) (duals : DualTable) (s 
         (ap (λ (z : Placement). z.places) sums ∙ ap (λ (z : Placement). z.places) (all_added_rest (placement_of a.partition) (members_of bs y) d) ∙ s.places.partition)
         (subst (λ (ys : List ℤ). IsPlacement n (core_at n a.kept) bs (dual_at ys) (placement_of q)) (sym written)
         (subst (IsPlacement n (core_at n a.kept) bs (dual_at (slice_set a.duals.values y (dual_at a.duals.values y +ℤ d)))) (sym sums)
-        (placement_child n bs (core_at n a.kept) a.duals.values (placement_of a.partition) y d s.family.nested place s.partition s.family.few
-        (subst (λ (ys : List ℤ). All IsNumber ys) written h.in_range) is (parent_child bs y (λ z. held (parent ∙ z))))))
+        (placement_child n bs (core_at n a.kept) a.duals.values (placement_of a.partition) y d s.family.nested place s.partition
+        is (parent_child bs y (λ z. held (parent ∙ z))))))

@@ -1,6 +1,8 @@
 -- The fields of an arena without blossoms.
 use Rattle.graph_theory.proofs.Common.{◌≡◌, ◌∙◌, ℕ, ◌+◌, ◌≤◌, ◌<◌, false, cond, List, [], length, refl, sym, ap, subst, arith, get_or, Option, None, ℤ, pos}
 use Rattle.graph_theory.proofs.Common.{replicate, slice_index, count_by, is_some, AllByRecursion, both_ways, le-leb, ints, length-replicate, get_or-replicate, holds, most_blossoms, IsNumber}
+use Rattle.graph_theory.proofs.Common.{int_wrap, int_wrap_fits}
+use Rattle.std.specs.Int.{w64}
 use Rattle.slab.specs.Slab.{get}
 use Rattle.graph_theory.specs.declared.limits.TheConstants.{GRAPH_VERTEX_LIMIT}
 use Rattle.blossom_arena.proofs.Cores.{each_placed}
@@ -11,7 +13,7 @@ use Rattle.blossom_arena.specs.Tables.{walk}
 use Rattle.blossom_arena.specs.Family.{Blossom, IsNested, HasDuals, HasMotions, empty_family, dual_at}
 use Rattle.blossom_arena.specs.declared.label.Label.TheVariants.{Out}
 use Rattle.blossom_arena.specs.Moving.{DualTable, empty_table}
-use Rattle.blossom_arena.specs.Fields.{IsPlacement, IsSound, blossoms_of, build, core_at, family_of, kept_of, key_of, order_of, own_run, parent_entry, IsOrder}
+use Rattle.blossom_arena.specs.Fields.{IsPlacement, IsSound, blossoms_of, build, core_at, family_of, kept_of, key_of, order_of, own_run, parent_entry, inner_of, IsOrder}
 use Rattle.blossom_arena.specs.Placement.{AreAlone, placement_of}
 use Rattle.blossom_arena.proofs.Nested.{vertex_range}
 use Rattle.blossom_arena.proofs.Sound.{rings}
@@ -53,7 +55,8 @@ module _ (a : Inside) (h : IsFresh a) where
       record {
         top = ap (placement_of a.partition).top (h.partition.set v low) ∙ h.partition.top v low;
         set = h.partition.set v low ∙ sym (ap (λ q. (cond q (own_run v) (kept_of n a.kept v).run).core) (le-leb v n range.1));
-        inner = omega (arith, ints, h.partition.inner v low);
+        inner = h.partition.inner v low ∙ sym (int_wrap_fits w64 (pos 0) (omega (arith, ints)))
+            ∙ ap (int_wrap w64) (let none : pos 0 ≡ inner_of (dual_at a.duals.values) [] v = omega (arith, ints) in none);
       })
 
   no_duals : HasDuals n (replicate places (pos 0)) []

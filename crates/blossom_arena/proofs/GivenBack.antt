@@ -1,14 +1,13 @@
 -- The sets of vertices where a node gives those of its ring back.
-use Rattle.graph_theory.proofs.Common.{nat_tests, ◌≡◌, ℕ, ◌≤◌, true, false, eqb, cond, List, refl, sym, ap, ◌∙◌, subst, arith, ℤ, pos, neg_ℤ, ◌+ℤ◌, ◌-ℤ◌}
-use Rattle.graph_theory.proofs.Common.{All, int_wrap, ints, eqb-true, both_ways, IsNumber, holds}
-use Rattle.std.specs.Int.{w128}
-use Rattle.graph_theory.specs.declared.limits.TheConstants.{GRAPH_VERTEX_LIMIT}
+use Rattle.graph_theory.proofs.Common.{nat_tests, ◌≡◌, ℕ, true, false, eqb, cond, List, refl, sym, ap, ◌∙◌, subst, arith, ℤ, pos, neg_ℤ, ◌+ℤ◌, ◌-ℤ◌}
+use Rattle.graph_theory.proofs.Common.{int_wrap, ints, eqb-true, both_ways, holds}
+use Rattle.std.specs.Int.{w64}
 use Rattle.blossom_arena.proofs.Older.{ring_new}
 use Rattle.blossom_arena.specs.declared.links.Link.{Link}
 use Rattle.blossom_arena.specs.Family.{Blossom, dual_at, in_ring, is_child, is_node, is_outermost, is_vertex, members_of, names_of, nodes_of, outermost, ring_of, union_of, without, IsNested}
 use Rattle.blossom_arena.specs.Fields.{inner_of, IsPlacement}
 use Rattle.blossom_arena.specs.Placement.{Placement, Spread, given, heir_of, letting_out, released}
-use Rattle.blossom_arena.proofs.Held.{inner_dissolved, inner_fits}
+use Rattle.blossom_arena.proofs.Held.{inner_dissolved}
 use Rattle.blossom_arena.proofs.Lists.{by_test, AllNew}
 use Rattle.blossom_arena.proofs.Nested.{child_is_node, name_is_node}
 use Rattle.blossom_arena.proofs.Opened.{child_outer, outermost_without, ring_members, ring_other}
@@ -20,8 +19,7 @@ use Rattle.blossom_arena.proofs.Cores.{HasCores, set_of, wrapped, HasPlace, each
 
 -- a node of dual 0 gives the nodes of its ring their vertices back: that of its own core keeps the set
 module _ (n : ℕ) (bs : List Blossom) (core_of now : ℕ → ℕ) (ys : List ℤ) (p : Placement) (node core : ℕ) (vertices : ℕ → List ℕ)
-    (few : n ≤ GRAPH_VERTEX_LIMIT) (nested : IsNested n bs) (cores : HasCores n bs core_of) (numbers : All IsNumber ys) (named : holds (names_of bs) node ≡ true)
-    (free : is_child bs node ≡ false)
+    (nested : IsNested n bs) (cores : HasCores n bs core_of) (named : holds (names_of bs) node ≡ true) (free : is_child bs node ≡ false)
     (h : IsPlacement n core_of bs (dual_at ys) p) (lists : (x : ℕ) → in_ring (ring_of bs node) x ≡ true → vertices x ≡ members_of bs x)
     (same : (x : ℕ) → eqb node x ≡ false → now x ≡ core_of x) (is : core ≡ core_of node) (none : dual_at ys node ≡ pos 0) where
   abbrev y : ℕ → ℤ
@@ -93,12 +91,12 @@ module _ (n : ℕ) (bs : List Blossom) (core_of now : ℕ → ℕ) (ys : List �
           let has : holds (vertices found.node) v ≡ true = ap (λ vs. holds vs v) (lists found.node found.within) ∙ found.has in
           subst (λ x. (in_ring ring x ≡ true) × (holds (vertices x) v ≡ true)) (sym (holder found.node found.within has)) (found.within, has)
 
-      fit : int_wrap w128 (p.inner v +ℤ (pos 0 -ℤ y o)) ≡ inner_of y left v
+      fit : int_wrap w64 (p.inner v +ℤ (pos 0 -ℤ y o)) ≡ int_wrap w64 (inner_of y left v)
       fit =
           let is_now = sums ∙ ap (λ q. inner_of y bs v +ℤ cond q (neg_ℤ (y o)) (pos 0)) m in
-          wrapped (p.inner v) (pos 0 -ℤ y o) (inner_of y left v) (inner_fits n ys left v few nested_left numbers) (omega (arith, ints, h.inner v iv, is_now))
+          wrapped (p.inner v) (inner_of y bs v) (pos 0 -ℤ y o) (inner_of y left v) (h.inner v iv) (omega (arith, ints, is_now))
 
-      back : HasPlace let_go v o (now o) (inner_of y left v)
+      back : HasPlace let_go v o (now o) (int_wrap w64 (inner_of y left v))
       back = by_test (eqb (now o) core)
           (λ keeps.
           let stays = out_at w p (nodes_of ring) v (λ c r moves. grind (arith, nat_tests, holder c r)) in
@@ -133,11 +131,13 @@ module _ (n : ℕ) (bs : List Blossom) (core_of now : ℕ → ℕ) (ys : List �
           let at = outermost_by_member n left o (p.set v) nested_left has.0 own in
           grind (arith, nat_tests, by_core c (p.set v) r, at, outside c r, members_without bs node c (ring_other bs node c free r), has.1)
 
-      kept : HasPlace let_go v o (now o) (inner_of y left v)
+      kept : HasPlace let_go v o (now o) (int_wrap w64 (inner_of y left v))
       kept =
           let stays = out_at w p (nodes_of ring) v (λ c r moves. ap (λ vs. holds vs v) (lists c r) ∙ outside c r) in
           let top = top_is w p (nodes_of ring) (p.set v) (outermost bs v) (h.tops v iv) (λ c r moves e. absurd (both_ways (eqb (now c) (p.set v)) (other_core c r) e)) in
-          let same_sum : p.inner v ≡ inner_of y left v = omega (arith, ints, h.inner v iv, sums ∙ ap (λ q. inner_of y bs v +ℤ cond q (neg_ℤ (y o)) (pos 0)) m) in
+          let is_now = sums ∙ ap (λ q. inner_of y bs v +ℤ cond q (neg_ℤ (y o)) (pos 0)) m in
+          let still : inner_of y bs v ≡ inner_of y left v = omega (arith, ints, is_now) in
+          let same_sum : p.inner v ≡ int_wrap w64 (inner_of y left v) = h.inner v iv ∙ ap (int_wrap w64) still in
           record {
             top = grind (arith, nat_tests, stays.set, other_set, top, same_outer);
             set = stays.set ∙ h.sets v iv ∙ sym (ap now same_outer ∙ same (outermost bs v) other_node);

@@ -1,16 +1,14 @@
 -- The duals of the nodes that hold a vertex, where a dual changes and where a blossom comes or goes.
-use Rattle.graph_theory.proofs.Common.{nat_tests, ◌≡◌, ℕ, suc, ◌*◌, ◌≤◌, ◌<◌, Bool, true, false, eqb, cond, List, [], ◌∷◌, length, refl, sym, ap, ◌∙◌}
-use Rattle.graph_theory.proofs.Common.{subst, arith, ⊎_elim, FitsSigned, not, ◌≢◌, ℤ, pos, neg_ℤ, ◌+ℤ◌, ◌-ℤ◌, ◌*ℤ◌, ◌≤ℤ◌, slice_set, All}
+use Rattle.graph_theory.proofs.Common.{nat_tests, ◌≡◌, ℕ, ◌<◌, Bool, true, false, eqb, cond, List, [], ◌∷◌, length, refl, sym, ap, ◌∙◌}
+use Rattle.graph_theory.proofs.Common.{subst, arith, ⊎_elim, not, ◌≢◌, ℤ, pos, neg_ℤ, ◌+ℤ◌, ◌-ℤ◌, ◌≤ℤ◌, slice_set, All}
 use Rattle.graph_theory.proofs.Common.{AllByRecursion, eqb-true, ne_eqb, both_ways, cases_lt, and_from, or_left, or_right, ints, get_or-set_other, get_or-set_same, get_or_past, IsNumber}
 use Rattle.graph_theory.proofs.Common.{holds}
-use Rattle.std.specs.Int.{w128}
-use Rattle.graph_theory.specs.declared.limits.TheConstants.{GRAPH_VERTEX_LIMIT, NUMBER_LIMIT}
 use Rattle.blossom_arena.specs.declared.links.Link.{Link}
 use Rattle.blossom_arena.specs.Family.{Blossom, names_of, is_vertex, is_node, is_child, is_outermost, outermost, members_of, union_of, made_of, without, dual_at, IsNested, in_ring}
-use Rattle.blossom_arena.specs.Slack.{IsDualSum, held_by}
+use Rattle.blossom_arena.specs.Slack.{held_by}
 use Rattle.blossom_arena.specs.Fields.{inner_of}
 use Rattle.blossom_arena.proofs.Lists.{by_test, first_in, later_in, set_at}
-use Rattle.blossom_arena.proofs.Nested.{vertex_range, not_new, outermost_parts, blossoms_few, new_no_child, node_before, name_is_node}
+use Rattle.blossom_arena.proofs.Nested.{vertex_range, not_new, outermost_parts, new_no_child, node_before, name_is_node}
 use Rattle.blossom_arena.proofs.Sets.{outermost_node, outermost_free, outer_member, outermost_by_member, member_by_ring, members_past}
 use Rattle.blossom_arena.proofs.Opened.{outermost_without}
 
@@ -33,36 +31,9 @@ held_without y (b ∷ older) a v none = grind (arith, nat_tests, ints, held_with
 pub alone : (x : ℤ) → x ≡ x +ℤ pos 0
 alone x = omega (arith, ints)
 
--- how large they can be
+-- how large a dual can be
 pub dual_number : (ys : List ℤ) (a : ℕ) → All IsNumber ys → IsNumber (dual_at ys a)
 dual_number ys a all = ⊎_elim (all a (pos 0)) (λ high. subst IsNumber (sym (get_or_past ys a (pos 0) high)) (omega (arith, ints), omega (arith, ints))) (cases_lt a (length ys))
-
-record IsWithin (x : ℤ) (k : ℕ) : Type 0 where
-  low : neg_ℤ (NUMBER_LIMIT *ℤ pos k) ≤ℤ x
-  high : x ≤ℤ (NUMBER_LIMIT *ℤ pos k)
-
-one_more : (q : Bool) (y sum : ℤ) (k : ℕ) → IsNumber y → IsWithin sum k → IsWithin (cond q y (pos 0) +ℤ sum) (suc k)
-one_more true y sum k is rest = record { low = omega (arith, ints, is.0, is.1, rest.low, rest.high); high = omega (arith, ints, is.0, is.1, rest.low, rest.high) }
-one_more false y sum k is rest = record { low = omega (arith, ints, rest.low, rest.high); high = omega (arith, ints, rest.low, rest.high) }
-
-held_within : (ys : List ℤ) (bs : List Blossom) (v : ℕ) → All IsNumber ys → IsWithin (held_by (dual_at ys) bs v) (length bs)
-held_within ys [] v all = record { low = omega (arith, ints); high = omega (arith, ints) }
-held_within ys (b ∷ older) v all = one_more (holds b.members v) (dual_at ys b.node) (held_by (dual_at ys) older v) (length older) (dual_number ys b.node all) (held_within ys older v all)
-
-pub dual_sum_range : (n : ℕ) (ys : List ℤ) (bs : List Blossom) (v : ℕ) → n ≤ GRAPH_VERTEX_LIMIT → IsNested n bs → All IsNumber ys
-    → IsDualSum (dual_at ys v +ℤ held_by (dual_at ys) bs v)
-dual_sum_range n ys bs v few nested all =
-    let most : 2 * length bs ≤ n = blossoms_few n bs nested in
-    let held = held_within ys bs v all in
-    let own = dual_number ys v all in
-    (omega (arith, ints, most, few, held.low, held.high, own.0, own.1), omega (arith, ints, most, few, held.low, held.high, own.0, own.1))
-
--- without the dual of the outermost node they fit into 128 bits
-pub inner_fits : (n : ℕ) (ys : List ℤ) (bs : List Blossom) (v : ℕ) → n ≤ GRAPH_VERTEX_LIMIT → IsNested n bs → All IsNumber ys → FitsSigned w128 (inner_of (dual_at ys) bs v)
-inner_fits n ys bs v few nested all =
-    let sum = dual_sum_range n ys bs v few nested all in
-    let out = dual_number ys (outermost bs v) all in
-    omega (arith, ints, sum.0, sum.1, out.0, out.1)
 
 -- the sums of two functions
 pub held-sum : (y z : ℕ → ℤ) (bs : List Blossom) (v : ℕ) → held_by (λ a. y a +ℤ z a) bs v ≡ held_by y bs v +ℤ held_by z bs v

@@ -7,6 +7,7 @@ pub mod Older
 pub mod Ends
 pub mod Tails
 pub mod Parents
+pub mod ChainSums
 pub mod Taken
 pub mod Rested
 pub mod Writes

@@ -1,6 +1,6 @@
 -- What a shrink leaves: one blossom more before those that stood.
 use Rattle.graph_theory.proofs.Common.{◌≡◌, ℕ, ◌+◌, ◌≤◌, ◌<◌, true, false, eqb, leb, List, [], ◌∷◌, length, refl, sym, ap, ◌∙◌, subst, arith, Some}
-use Rattle.graph_theory.proofs.Common.{slice_set, slice_index, IsSome, is_some, ℤ, pos, All, AllByRecursion, Vec, eqb-true, eqb-false, or_from, or_left, both_ways, false_from_ne_true}
+use Rattle.graph_theory.proofs.Common.{slice_set, slice_index, IsSome, is_some, ℤ, pos, AllByRecursion, Vec, eqb-true, eqb-false, or_from, or_left, both_ways, false_from_ne_true}
 use Rattle.graph_theory.proofs.Common.{lt-leb, and_right, cond_both, ints, get_or-set_other, get_or-set_same, length-set, All-set, holds, most_blossoms, IsNumber}
 use Rattle.slab.specs.Slab.{Slab, get, slab_len}
 use Rattle.blossom_arena.proofs.LinkLists.{each_link}
@@ -197,8 +197,8 @@ module _ (a : Inside) (duals : DualTable) (partition : SetTables) (parents nexts
         subst (λ (ys : List ℤ). IsPlacement n (core_at n kept) (made_of bs ring node ∷ bs) (dual_at ys) (placement_of partition)) (sym h.duals)
         (subst (IsPlacement n (core_at n kept) (made_of bs ring node ∷ bs) (dual_at (slice_set a.duals.values node (pos 0)))) (sym h.partition)
         (placement_shrunk n bs (core_at n a.kept) (core_at n kept) a.duals.values (placement_of a.partition) ring node core.node (joined_run a ring).core
-        (λ x. vertices_of followers.items (run_of n kept x)) s.family.few (next, s.family.nested) (λ x is. (node_run a s x is).core)
-        (subst (λ (ys : List ℤ). All IsNumber ys) h.duals duals_after.in_range) (omega (arith, within, s.family.duals.one_each)) s.partition
+        (λ x. vertices_of followers.items (run_of n kept x)) (next, s.family.nested) (λ x is. (node_run a s x is).core)
+        (omega (arith, within, s.family.duals.one_each)) s.partition
         (λ x r. (node_stays a ring kept followers.items node key s c h.adds x (circuit_node n bs ring x c r)).vertices)
         (λ x is. ap (λ (r : Run). r.core) (run_same a ring kept followers.items node key s c h.adds x is))
         (ap (λ (r : Run). r.core) (run_new a ring kept followers.items node key s c h.adds)) core.within core.is))

@@ -1,7 +1,7 @@
 -- What vertices that come into other sets leave at each vertex and at each set.
 use Rattle.graph_theory.proofs.Common.{nat_tests, ◌≡◌, ℕ, true, false, eqb, cond, List, [], ◌∷◌, refl, sym, ap, ◌∙◌, subst, arith, ℤ, ◌+ℤ◌, int_wrap, eqb-true}
 use Rattle.graph_theory.proofs.Common.{both_ways, holds}
-use Rattle.std.specs.Int.{w128}
+use Rattle.std.specs.Int.{w64}
 use Rattle.blossom_arena.specs.Placement.{Placement, Spread, added_at, all_added, all_in, heir_of, placed, put_in, spread, topped}
 use Rattle.blossom_arena.proofs.Lists.{by_test, AllNew, first_in, later_in}
 
@@ -11,7 +11,7 @@ all_in_set p [] s y w = refl
 all_in_set p (v ∷ vs) s y w = grind (arith, nat_tests, all_in_set (put_in p v s y) vs s y w)
 
 pub all_in_inner : (p : Placement) (vs : List ℕ) (s : ℕ) (y : ℤ) (w : ℕ) → AllNew vs
-    → (all_in p vs s y).inner w ≡ cond (holds vs w) (int_wrap w128 (p.inner w +ℤ y)) (p.inner w)
+    → (all_in p vs s y).inner w ≡ cond (holds vs w) (int_wrap w64 (p.inner w +ℤ y)) (p.inner w)
 all_in_inner p [] s y w new = refl
 all_in_inner p (v ∷ vs) s y w new = grind (arith, nat_tests, all_in_inner (put_in p v s y) vs s y w new.1, new.0)
 
@@ -28,7 +28,7 @@ all_in_places p [] s y = refl
 all_in_places p (v ∷ vs) s y = all_in_places (put_in p v s y) vs s y
 
 -- more at vertices
-pub all_added_inner : (p : Placement) (vs : List ℕ) (y : ℤ) (w : ℕ) → AllNew vs → (all_added p vs y).inner w ≡ cond (holds vs w) (int_wrap w128 (p.inner w +ℤ y)) (p.inner w)
+pub all_added_inner : (p : Placement) (vs : List ℕ) (y : ℤ) (w : ℕ) → AllNew vs → (all_added p vs y).inner w ≡ cond (holds vs w) (int_wrap w64 (p.inner w +ℤ y)) (p.inner w)
 all_added_inner p [] y w new = refl
 all_added_inner p (v ∷ vs) y w new = grind (arith, nat_tests, all_added_inner (added_at p v y) vs y w new.1, new.0)
 
@@ -69,7 +69,7 @@ module _ (w : Spread) where
 
   -- a vertex of a node that moves
   pub in_at : (p : Placement) (cs : List ℕ) (v o : ℕ) → AllNew cs → holds cs o ≡ true → w.keeps o ≡ false → holds (w.vertices o) v ≡ true → AllNew (w.vertices o)
-      → ((c : ℕ) → holds cs c ≡ true → holds (w.vertices c) v ≡ true → c ≡ o) → HasAt (spread w p cs) v (w.set o) (int_wrap w128 (p.inner v +ℤ w.more o))
+      → ((c : ℕ) → holds cs c ≡ true → holds (w.vertices c) v ≡ true → c ≡ o) → HasAt (spread w p cs) v (w.set o) (int_wrap w64 (p.inner v +ℤ w.more o))
   in_at p [] v o new k moves m different one = absurd (both_ways false refl k)
   in_at p (c ∷ cs) v o new k moves m different one =
       by_test (eqb c o)
@@ -84,7 +84,7 @@ module _ (w : Spread) where
       (λ e.
       let stays = step_out p c v (λ t. let is = one c (first_in c cs) in grind (arith, nat_tests, is)) in
       let rest = in_at (next p c) cs v o new.1 (grind arith) moves m different (λ d t. one d (later_in c cs d t)) in
-      record { set = rest.set; inner = rest.inner ∙ ap (λ x. int_wrap w128 (x +ℤ w.more o)) stays.inner })
+      record { set = rest.set; inner = rest.inner ∙ ap (λ x. int_wrap w64 (x +ℤ w.more o)) stays.inner })
 
   -- the outermost node of a set that gets none
   pub top_is : (p : Placement) (cs : List ℕ) (t o : ℕ) → p.top t ≡ o → ((c : ℕ) → holds cs c ≡ true → w.keeps c ≡ false → eqb (w.set c) t ≡ true → w.top c ≡ o)

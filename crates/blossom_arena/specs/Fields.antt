@@ -3,6 +3,7 @@ use Rattle.std.specs.Prelude.{◌≡◌, ℕ, zero, suc, ◌+◌, ◌-◌, ◌<�
 use Rattle.std.specs.Prelude.{nat_le, if◌then◌else◌}
 use Rattle.std.specs.Prelude.{List, [], ◌∷◌, length, map, Option, Some, None, IsSome, slice_index}
 use Rattle.std.specs.Prelude.{slice_set}
+use Rattle.std.specs.Int.{w64, int_wrap}
 use Rattle.std.specs.List.{AllByRecursion}
 use Rattle.slab.specs.Slab.{Slab, get, slab_len}
 use Rattle.graph_theory.specs.Parts.{holds}
@@ -86,12 +87,12 @@ vertices_at followers n kept node = vertices_of followers (run_of n kept node)
 abbrev pub core_at : ℕ → Slab Kept → ℕ → ℕ
 core_at n kept node = (run_of n kept node).core
 
--- each vertex has its outermost node and the sum of the duals of all other nodes that hold it; the
--- vertices of an outermost node form a set
+-- each vertex has its outermost node and, modulo 2^64, the sum of the duals of all other nodes that
+-- hold it; the vertices of an outermost node form a set
 pub record IsPlacement (n : ℕ) (core_of : ℕ → ℕ) (bs : List Blossom) (y : ℕ
     → ℤ) (p : Placement) : Type 0 where
   pub tops : (v : ℕ) → is_vertex n v ≡ true → p.top (p.set v) ≡ outermost bs v
-  pub inner : (v : ℕ) → is_vertex n v ≡ true → p.inner v ≡ inner_of y bs v
+  pub inner : (v : ℕ) → is_vertex n v ≡ true → p.inner v ≡ int_wrap w64 (inner_of y bs v)
   pub sets : (v : ℕ) → is_vertex n v ≡ true → p.set v ≡ core_of (outermost bs v)
 
 -- up by a table of parents, at most so many numbers, until there is none

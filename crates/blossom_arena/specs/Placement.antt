@@ -1,11 +1,11 @@
 -- How vertices are kept by their outermost nodes. No public clause cites this module.
 use Rattle.std.specs.Prelude.{◌≡◌, ℕ, ◌<◌, ℤ, pos, ◌+ℤ◌, ◌-ℤ◌, Bool, ◌==◌, if◌then◌else◌, List, []}
 use Rattle.std.specs.Prelude.{◌∷◌, length, slice_index, slice_index_or}
-use Rattle.std.specs.Int.{w128, int_wrap}
+use Rattle.std.specs.Int.{w64, int_wrap}
 use Rattle.blossom_arena.specs.declared.partition.Partition.TheInside.{Inside}
 
--- by vertex its set and the duals of the nodes that hold it but are not outermost, added up, and by
--- set its outermost node
+-- by vertex its set and the duals of the nodes that hold it but are not outermost, added up modulo
+-- 2^64, and by set its outermost node
 pub record Placement : Type 0 where
   pub places : ℕ
   pub set : ℕ → ℕ
@@ -18,7 +18,7 @@ sum_at sums v = slice_index_or sums v (pos 0)
 
 -- a part by vertex and a part by set, whose sum wraps around
 abbrev pub whole_at : List ℤ → List ℤ → List ℕ → ℕ → ℤ
-whole_at bases offsets sets v = int_wrap w128
+whole_at bases offsets sets v = int_wrap w64
     (sum_at bases v +ℤ sum_at offsets (slice_index sets v))
 
 -- the tables of a partition
@@ -62,14 +62,14 @@ topped p s node = record p { top = λ t. if s == t then node else p.top t }
 abbrev pub given : Placement → ℕ → ℕ → ℤ → Placement
 given p s node y = record p {
   top = λ t. if s == t then node else p.top t;
-  inner = λ v. if s == p.set v then int_wrap w128 (p.inner v +ℤ y) else p.inner v;
+  inner = λ v. if s == p.set v then int_wrap w64 (p.inner v +ℤ y) else p.inner v;
 }
 
 -- a vertex in another set, with so much more in its sum
 abbrev pub put_in : Placement → ℕ → ℕ → ℤ → Placement
 put_in p v s y = record p {
   set = λ w. if v == w then s else p.set w;
-  inner = λ w. if v == w then int_wrap w128 (p.inner w +ℤ y) else p.inner w;
+  inner = λ w. if v == w then int_wrap w64 (p.inner w +ℤ y) else p.inner w;
 }
 
 -- vertices in another set, one after the other
@@ -84,7 +84,7 @@ placed p vs s node y = all_in (topped p s node) vs s y
 -- so much more in the sum of a vertex, and of each of some vertices
 abbrev pub added_at : Placement → ℕ → ℤ → Placement
 added_at p v y = record p
-    { inner = λ w. if v == w then int_wrap w128 (p.inner w +ℤ y) else p.inner w }
+    { inner = λ w. if v == w then int_wrap w64 (p.inner w +ℤ y) else p.inner w }
 
 abbrev pub all_added : Placement → List ℕ → ℤ → Placement
 all_added p [] y = p

@@ -25,9 +25,14 @@ abbrev pub IsDualSum : ℤ → Type 0
 IsDualSum x = (neg_ℤ (NUMBER_LIMIT *ℤ pos GRAPH_VERTEX_LIMIT) ≤ℤ x)
     × (x ≤ℤ (NUMBER_LIMIT *ℤ pos GRAPH_VERTEX_LIMIT))
 
--- a sum of duals that lies within twice the greatest number
+-- a number that they can add up to within a pass of a search: it fits 64 bits
 abbrev pub IsNearSum : ℤ → Type 0
 IsNearSum x = (neg_ℤ (pos 2 *ℤ NUMBER_LIMIT) ≤ℤ x) × (x ≤ℤ (pos 2 *ℤ NUMBER_LIMIT))
+
+-- the duals of these nodes, added up
+abbrev pub total_of : (ℕ → ℤ) → List ℕ → ℤ
+total_of y [] = pos 0
+total_of y (x ∷ xs) = y x +ℤ total_of y xs
 
 -- the duals of the vertices 1 to n
 abbrev pub vertex_duals : ℕ → List ℤ → List ℤ

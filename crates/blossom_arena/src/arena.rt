@@ -13,7 +13,7 @@ ghost use Rattle.blossom_arena.specs.Slack.{IsDualSum, IsNearSum, held_by};
 
 use crate::blossoms::Blossoms;
 use crate::chain::{Chain, child_below};
-use crate::dual_table::Duals;
+use crate::dual_table::{Duals, narrowed, total};
 use crate::label::Label;
 use crate::links::{Link, node_at};
 use crate::members::Members;
@@ -46,8 +46,8 @@ pub struct Arena {
     parents: Vec<u32>,
     nexts: Vec<u32>,
     edges: Vec<EdgeId>,
-    // By vertex: its outermost node and the duals of all other nodes that hold it, added up, and
-    // the vertex after it in the blossoms that hold both.
+    // By vertex: its outermost node and the duals of all other nodes that hold it, added up modulo
+    // 2^64, and the vertex after it in the blossoms that hold both.
     partition: Partition,
     followers: Vec<u32>,
     // By node number: the next older and the next newer blossom. Place 0 stands between the two
@@ -181,7 +181,23 @@ impl Arena {
         self.duals.get(node.number() as usize)
     }
 
-    /// The duals of all nodes that hold a vertex, added up, in constant time.
+    /// Adds up the duals of all nodes that hold a vertex, in constant time. The sum is known to lie
+    /// within 2 * 10^18.
+    pub fn near_sum(&self, vertex: VertexId) -> i64
+        requires vertex { is_vertex self.now.vertex_count vertex ≡ true }
+        requires near { IsNearSum (dual_at self.now.duals vertex
+            +ℤ held_by (dual_at self.now.duals) self.now.blossoms vertex) }
+
+        // The duals of all nodes that hold a vertex, added up in 64 bits.
+        ensures near_sum { result ≡ dual_at self.now.duals vertex
+            +ℤ held_by (dual_at self.now.duals) self.now.blossoms vertex }
+        ensures good { IsFamily self.now }
+    {
+        let inner = self.partition.inner(vertex.number());
+        inner.wrapping_add(self.dual(self.outermost(vertex)))
+    }
+
+    /// Adds up the duals of all nodes that hold a vertex, in time linear in these nodes.
     pub fn dual_sum(&self, v: VertexId) -> i128
         requires { is_vertex self.now.vertex_count v ≡ true }
 
@@ -191,7 +207,7 @@ impl Arena {
         ensures in_range { IsDualSum result }
         ensures good { IsFamily self.now }
     {
-        self.partition.inner(v.number()) + i128::from(self.dual(self.outermost(v)))
+        total(&self.duals, self.chain(v))
     }
 
     /// The duals of all nodes that hold a vertex, added up, if the sum is known to fit. It takes
@@ -229,7 +245,7 @@ impl Arena {
                 &self.followers,
                 find_run(&self.kept, self.vertex_count, number),
             ),
-            d,
+            narrowed(d),
         );
     }
 

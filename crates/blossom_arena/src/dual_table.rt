@@ -1,6 +1,11 @@
-ghost use Rattle.std.specs.Prelude.{◌≡◌, ◌+ℤ◌, ◌-ℤ◌};
+ghost use Rattle.std.specs.Prelude.{◌≡◌, ◌<◌, ◌≤◌, ◌+ℤ◌, ◌-ℤ◌, length};
+ghost use Rattle.std.specs.List.{AllByRecursion};
+ghost use Rattle.graph_theory.specs.declared.limits.TheConstants.{GRAPH_VERTEX_LIMIT};
 ghost use Rattle.graph_theory.specs.Duals.{IsNumber};
+ghost use Rattle.blossom_arena.specs.Family.{dual_at};
+ghost use Rattle.blossom_arena.specs.Slack.{IsDualSum, IsNearSum, total_of};
 
+use crate::chain::Chain;
 use crate::label::Label;
 use crate::links::Link;
 use crate::shares::Shares;
@@ -45,6 +50,28 @@ fn sum_of(base: i64, share: i64) -> i64
     ensures { result ≡ base +ℤ share }
 {
     base + share
+}
+
+/// What is added to a dual, in 64 bits: the difference of two duals.
+pub(crate) fn narrowed(d: i128) -> i64
+    requires { IsNearSum d }
+    ensures { result ≡ d }
+{
+    d as i64
+}
+
+/// The duals of the nodes of a chain, added up.
+pub(crate) fn total(duals: &Duals, chain: Chain<'_>) -> i128
+    requires places { AllByRecursion (λ a. a < length duals.now.values) chain }
+    requires few { length chain ≤ GRAPH_VERTEX_LIMIT }
+    ensures total { result ≡ total_of (dual_at duals.now.values) chain.entry }
+    ensures in_range { IsDualSum result }
+{
+    let mut sum = 0i128;
+    for node in chain {
+        sum += i128::from(duals.get(node.number() as usize));
+    }
+    sum
 }
 
 /// A dual and what is added to it, where the sum is in range.
@@ -93,15 +120,6 @@ impl Duals {
     {
         let share = self.shares.share(self.motions[place]);
         sum_of(self.bases[place], share)
-    }
-
-    /// The dual at a place, as sums take it.
-    pub(crate) fn wide(&self, place: usize) -> i128
-        requires { place < length self.now.values }
-        ensures dual { result ≡ dual_at self.now.values place }
-        ensures number { IsNumber result }
-    {
-        i128::from(self.get(place))
     }
 
     /// How the dual at a place moves.

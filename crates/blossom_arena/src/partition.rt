@@ -6,18 +6,18 @@ use std::alloc::Global;
 use std::marker::Model;
 
 /// The vertices by their outermost nodes, and at each vertex the duals of all other nodes that hold
-/// it, added up. A vertex names a set, and the set its outermost node and what the sums of its
-/// vertices have in common, so that a node takes over a whole set in constant time. A set is named
-/// by one of its vertices. Contracts see the table by vertex and by set.
+/// it, added up modulo 2^64. A vertex names a set, and the set its outermost node and what the sums
+/// of its vertices have in common, so that a node takes over a whole set in constant time. A set is
+/// named by one of its vertices. Contracts see the table by vertex and by set.
 #[derive(Drop)]
 pub(crate) struct Partition {
-    // By vertex: its set, and its sum without that of the set. Sums wrap around at 128 bits, so
-    // that a part may leave the range in which each whole sum lies.
+    // By vertex: its set, and its sum without that of the set. Sums wrap around at 64 bits, and a
+    // part may leave their range: a whole sum is exact if it fits.
     sets: Vec<u32>,
-    bases: Vec<i128>,
+    bases: Vec<i64>,
     // By set: its outermost node, and its sum.
     tops: Vec<u32>,
-    offsets: Vec<i128>,
+    offsets: Vec<i64>,
 }
 
 impl Model for Partition {
@@ -45,9 +45,9 @@ impl Partition {
         let places = n as usize + 1;
         Ok(Partition {
             sets: numbered(alloc, n)?,
-            bases: vec![in alloc; 0i128; places]?,
+            bases: vec![in alloc; 0i64; places]?,
             tops: numbered(alloc, n)?,
-            offsets: vec![in alloc; 0i128; places]?,
+            offsets: vec![in alloc; 0i64; places]?,
         })
     }
 
@@ -71,7 +71,7 @@ impl Partition {
     }
 
     /// The sum at a vertex.
-    pub(crate) fn inner(&self, vertex: u32) -> i128
+    pub(crate) fn inner(&self, vertex: u32) -> i64
         requires { vertex < length self.now.sets }
         ensures { result ≡ (placement_of self.now).inner vertex }
     {
@@ -79,7 +79,7 @@ impl Partition {
     }
 
     /// Gives all vertices of a set an outermost node, and so much more to their sums.
-    pub(crate) fn give(&mut self, set: u32, node: u32, y: i128)
+    pub(crate) fn give(&mut self, set: u32, node: u32, y: i64)
         requires { set < length self.old.sets }
         ensures len { length self.new.sets ≡ length self.old.sets }
         ensures placement { placement_of self.new ≡ given (placement_of self.old) set node y }
@@ -99,7 +99,7 @@ impl Partition {
     }
 
     /// Puts a vertex into a set, with so much more in its sum.
-    fn put(&mut self, vertex: u32, set: u32, y: i128)
+    fn put(&mut self, vertex: u32, set: u32, y: i64)
         requires vertex { vertex < length self.old.sets }
         requires set { set < length self.old.sets }
         ensures len { length self.new.sets ≡ length self.old.sets }
@@ -112,7 +112,7 @@ impl Partition {
     }
 
     /// Puts vertices into a set with this outermost node, with so much more in the sum of each.
-    pub(crate) fn place(&mut self, vertices: Members<'_>, set: u32, node: u32, y: i128)
+    pub(crate) fn place(&mut self, vertices: Members<'_>, set: u32, node: u32, y: i64)
         requires vertices { AllByRecursion (λ v. v < length self.old.sets) vertices }
         requires set { set < length self.old.sets }
         ensures len { length self.new.sets ≡ length self.old.sets }
@@ -126,7 +126,7 @@ impl Partition {
     }
 
     /// Adds to the sum at a vertex.
-    fn add(&mut self, vertex: u32, y: i128)
+    fn add(&mut self, vertex: u32, y: i64)
         requires { vertex < length self.old.sets }
         ensures len { length self.new.sets ≡ length self.old.sets }
         ensures placement { placement_of self.new ≡ added_at (placement_of self.old) vertex y }
@@ -136,7 +136,7 @@ impl Partition {
     }
 
     /// Adds to the sum at each of these vertices.
-    pub(crate) fn add_each(&mut self, vertices: Members<'_>, y: i128)
+    pub(crate) fn add_each(&mut self, vertices: Members<'_>, y: i64)
         requires { AllByRecursion (λ v. v < length self.old.sets) vertices }
         ensures len { length self.new.sets ≡ length self.old.sets }
         ensures placement { placement_of self.new

@@ -147,7 +147,7 @@ pub(crate) fn join(followers: &mut Vec<u32>, kept: &Slab<Kept>, count: u32, circ
 }
 
 /// Puts the vertices of a circuit's node into the set of a core, if they aren't in it.
-fn take_in(partition: &mut Partition, followers: &[u32], run: Run, core: u32, node: u32, y: i128)
+fn take_in(partition: &mut Partition, followers: &[u32], run: Run, core: u32, node: u32, y: i64)
     requires within { AllByRecursion (λ v. v < length followers.now)
         (vertices_of followers.now run) }
     requires places { length partition.old.sets ≡ length followers.now }
@@ -192,7 +192,7 @@ pub(crate) fn absorb(
         ((placement_of partition.old).set core)))) (nodes_of circuit.now) }
 {
     let largest = partition.outermost(core);
-    partition.give(core, node, duals.wide(largest as usize));
+    partition.give(core, node, duals.get(largest as usize));
     for link in circuit {
         let child = link.node.number();
         let run = find_run(kept, count, child);
@@ -202,13 +202,13 @@ pub(crate) fn absorb(
             run,
             core,
             node,
-            duals.wide(child as usize),
+            duals.get(child as usize),
         );
     }
 }
 
 /// The number with the other sign.
-fn negated(y: i128) -> i128
+fn negated(y: i64) -> i64
     requires { IsNumber y }
     ensures { result ≡ pos 0 -ℤ y }
 {
@@ -216,7 +216,7 @@ fn negated(y: i128) -> i128
 }
 
 /// Puts the vertices of a ring's node into a set of its own, unless their set is that of its core.
-fn let_out(partition: &mut Partition, followers: &[u32], run: Run, core: u32, node: u32, y: i128)
+fn let_out(partition: &mut Partition, followers: &[u32], run: Run, core: u32, node: u32, y: i64)
     requires within { AllByRecursion (λ v. v < length followers.now)
         (vertices_of followers.now run) }
     requires places { length partition.old.sets ≡ length followers.now }
@@ -287,8 +287,8 @@ pub(crate) fn release(
             run,
             core,
             child,
-            duals.wide(child as usize),
+            duals.get(child as usize),
         );
     }
-    partition.give(core, largest, negated(duals.wide(largest as usize)));
+    partition.give(core, largest, negated(duals.get(largest as usize)));
 }

@@ -1,4 +1,4 @@
-use Rattle.graph_theory.proofs.Common.{◌≡◌, ◌∙◌, ℕ, ◌+◌, ◌<◌, eqb, cond, List, ◌∷◌, drop, length, ap, ap₂, subst, arith, rules, to_z, of_z, w128, ℤ}
+use Rattle.graph_theory.proofs.Common.{◌≡◌, ◌∙◌, ℕ, ◌+◌, ◌<◌, eqb, cond, List, ◌∷◌, drop, length, ap, ap₂, subst, arith, rules, to_z, of_z, w64, ℤ}
 use Rattle.graph_theory.proofs.Common.{AllByRecursion, [], get_or, length-drop, nil_from_length, sym}
 use Rattle.blossom_arena.specs.declared.links.Link.{Link}
 use Rattle.blossom_arena.specs.declared.runs.Run.{Run}
@@ -19,8 +19,8 @@ taken c =
     let p : Placement = placement_of c.loop-link.partition in
     let run : c.find_run-run.result ≡ run_of c.args.count c.args.kept.now c.link-item.result.node = c.find_run-run.ensures
     ∙ ap (run_of c.args.count c.args.kept.now) c.number-child.ensures in
-    let back : to_z w128 (of_z w128 c.wide-in-loop-link.result) ≡ c.wide-in-loop-link.result = search rules in
-    let dual = back ∙ c.wide-in-loop-link.ensures.dual ∙ ap (dual_at c.args.duals.now.values) c.number-child.ensures in
+    let back : to_z w64 (of_z w64 c.get-in-loop-link.result) ≡ c.get-in-loop-link.result = search rules in
+    let dual = back ∙ c.get-in-loop-link.ensures.dual ∙ ap (dual_at c.args.duals.now.values) c.number-child.ensures in
     c.take_in.ensures.placement
     ∙ ap₂ (λ (r : Run) (y : ℤ). cond (eqb r.core c.args.core) p (placed p (vertices_of c.args.followers.now r) c.args.core c.args.node y)) run dual
 
@@ -37,11 +37,11 @@ here A circuit i l low is all = (subst (AllByRecursion A) (drop_next circuit i l
 pub give-requires : goal.give-requires
 give-requires c = omega (arith, c.requires.places, c.requires.core)
 
-pub wide-requires : goal.wide-requires
-wide-requires c = subst (λ (a : ℕ). a < length c.args.duals.now.values) (sym c.outermost-largest.ensures) c.requires.largest
+pub get-requires : goal.get-requires
+get-requires c = subst (λ (a : ℕ). a < length c.args.duals.now.values) (sym c.outermost-largest.ensures) c.requires.largest
 
-pub wide-requires-in-loop-link : goal.wide-requires-in-loop-link
-wide-requires-in-loop-link c =
+pub get-requires-in-loop-link : goal.get-requires-in-loop-link
+get-requires-in-loop-link c =
     let nodes = here (λ (k : Link). k.node < length c.args.duals.now.values) c.args.circuit.now c.loop-link.link-index c.link-item.result in
     omega (arith, c.number-child.ensures, nodes (omega (arith, c.loop-link-test.true)) c.link-item.is c.loop-link.invariant.nodes)
 

@@ -1,5 +1,5 @@
 use Rattle.graph_theory.proofs.Common.{◌≡◌, ◌∙◌, ℕ, ℤ, pos, ◌-ℤ◌, ◌<◌, eqb, cond, cond_both, List, ◌∷◌, length, set, sym, ap, ap₂, subst}
-use Rattle.graph_theory.proofs.Common.{arith, rules, to_z, of_z, w128, AllByRecursion, vec_len}
+use Rattle.graph_theory.proofs.Common.{arith, rules, to_z, of_z, w64, AllByRecursion, vec_len}
 use Rattle.blossom_arena.specs.declared.links.Link.{Link}
 use Rattle.blossom_arena.specs.declared.runs.Run.{Run}
 use Rattle.blossom_arena.specs.Family.{dual_at, nodes_of}
@@ -27,8 +27,8 @@ index_mut-requires c =
     let here = (subst (AllByRecursion (λ (k : Link). k.node < vec_len c.args.parents.now)) c.in-Some.ensures.steps c.loop-link.invariant.parents).0 in
     omega (arith, c.number-child.ensures, c.loop-link.invariant.parents_len, here)
 
-pub wide-requires : goal.wide-requires
-wide-requires c =
+pub get-requires : goal.get-requires
+get-requires c =
     omega (arith, c.number-child.ensures, (subst (AllByRecursion (λ (k : Link). k.node < length c.args.duals.now.values)) c.in-Some.ensures.steps c.loop-link.invariant.nodes).0)
 
 pub let_out-requires : goal.let_out-requires
@@ -39,12 +39,12 @@ let_out-requires c =
     let run : c.find_run-run.result ≡ run_of count kept c.in-Some.link.node = c.find_run-run.ensures ∙ ap (run_of count kept) c.number-child.ensures in
     let here = (subst (AllByRecursion (λ (k : Link). AllByRecursion (λ v. v < length f) (vertices_at f count kept k.node) × (core_at count kept k.node < length f)))
     c.in-Some.ensures.steps c.loop-link.invariant.within).0 in
-    let back : to_z w128 (of_z w128 c.wide.result) ≡ c.wide.result = search rules in
+    let back : to_z w64 (of_z w64 c.get.result) ≡ c.get.result = search rules in
     record {
       within = subst (λ (r : Run). AllByRecursion (λ v. v < length f) (vertices_of f r)) (sym run) here.0;
       places = c.loop-link.invariant.len ∙ c.requires.places;
       core = subst (λ (r : Run). r.core < length f) (sym run) here.1;
-      number = rw back c.wide.ensures.number;
+      number = rw back c.get.ensures.number;
     }
 
 pub loop-link-preserved : goal.loop-link-preserved
@@ -59,8 +59,8 @@ loop-link-preserved c =
     let node : ℕ = c.in-Some.link.node in
     let child : c.number-child.result ≡ node = c.number-child.ensures in
     let run : c.find_run-run.result ≡ run_of count kept node = c.find_run-run.ensures ∙ ap (run_of count kept) child in
-    let back : to_z w128 (of_z w128 c.wide.result) ≡ c.wide.result = search rules in
-    let dual : to_z w128 (of_z w128 c.wide.result) ≡ dual_at values node = back ∙ c.wide.ensures.dual ∙ ap (dual_at values) child in
+    let back : to_z w64 (of_z w64 c.get.result) ≡ c.get.result = search rules in
+    let dual : to_z w64 (of_z w64 c.get.result) ≡ dual_at values node = back ∙ c.get.ensures.dual ∙ ap (dual_at values) child in
     let out = c.let_out.ensures.placement
     ∙ ap₂ (λ (r : Run) (y : ℤ). cond (eqb r.core c.args.core) p (placed p (vertices_of f r) r.core c.number-child.result (pos 0 -ℤ y))) run dual
     ∙ ap (λ (a : ℕ). cond (eqb (core_at count kept node) c.args.core) p (placed p (vertices_at f count kept node) (core_at count kept node) a (pos 0 -ℤ dual_at values node))) child in
@@ -86,8 +86,8 @@ pub returns-clause-placement : goal.returns-clause-placement
 returns-clause-placement c =
     let i = c.loop-link.invariant in
     let none = c.in-None.ensures.steps.0 in
-    let back : to_z w128 (of_z w128 c.negated.result) ≡ c.negated.result = search rules in
-    let whole : to_z w128 (of_z w128 c.wide-2.result) ≡ c.wide-2.result = search rules in
-    let dual = back ∙ c.negated.ensures ∙ ap (λ (z : ℤ). pos 0 -ℤ z) (whole ∙ c.wide-2.ensures.dual) in
+    let back : to_z w64 (of_z w64 c.negated.result) ≡ c.negated.result = search rules in
+    let whole : to_z w64 (of_z w64 c.get-2.result) ≡ c.get-2.result = search rules in
+    let dual = back ∙ c.negated.ensures ∙ ap (λ (z : ℤ). pos 0 -ℤ z) (whole ∙ c.get-2.ensures.dual) in
     c.give.ensures.placement ∙ ap (given (placement_of c.loop-link.partition) c.args.core c.loop-link.largest) dual
     ∙ ap₂ (λ (p : Placement) (a : ℕ). given p c.args.core a (pos 0 -ℤ dual_at c.args.duals.now.values a)) (rw none at i.rest) (rw none at i.heir)

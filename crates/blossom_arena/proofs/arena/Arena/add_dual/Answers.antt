@@ -1,8 +1,10 @@
-use Rattle.graph_theory.proofs.Common.{◌≡◌, ◌∙◌, ℕ, ◌<◌, List, sym, ap, ap₂, subst, length, arith, rules, to_z, of_z, ◌+ℤ◌, slice_set, AllByRecursion, w128}
+use Rattle.graph_theory.proofs.Common.{◌≡◌, ◌∙◌, ℕ, ◌<◌, List, refl, sym, ap, ap₂, subst, length, arith, ints, rules, to_z, of_z, ℤ, ◌+ℤ◌, slice_set, AllByRecursion, w64, w128}
 use Rattle.graph_theory.proofs.Common.{IsNumber}
 use Rattle.blossom_arena.specs.Family.{Family, dual_at}
 use Rattle.blossom_arena.specs.Fields.{vertices_of}
 use Rattle.blossom_arena.specs.Placement.{all_added, placement_of}
+use Rattle.blossom_arena.specs.Slack.{IsNearSum}
+use Rattle.blossom_arena.proofs.Held.{dual_number}
 use Rattle.blossom_arena.proofs.Sound.{node_low, read_within, read_members}
 use Rattle.blossom_arena.proofs.Duals.{raised_outer, raised_child}
 use Rattle.blossom_arena.proofs.arena.Arena.add_dual.Goals as goal
@@ -43,11 +45,26 @@ add_each-requires c =
     (subst (λ m. AllByRecursion (λ v. v < m) (vertices_of c.deref.result.now c.find_run.result))
     (ap length c.deref.ensures.value ∙ c.self.invariant.places.followers ∙ sym c.self.invariant.places.partition) within)
 
+-- what is added is the difference of two duals
+near : (x y d : ℤ) → IsNumber x → IsNumber y → y ≡ x +ℤ d → IsNearSum d
+near x y d is then e = (omega (arith, ints, is.0, is.1, then.0, then.1, e), omega (arith, ints, is.0, is.1, then.0, then.1, e))
+
+pub narrowed-requires : goal.narrowed-requires
+narrowed-requires c =
+    let back : to_z w128 (of_z w128 c.args.d) ≡ c.args.d = search rules in
+    let ys = c.self.inside.duals.values in
+    let before : IsNumber (dual_at ys c.args.node) = dual_number ys c.args.node c.self.invariant.family.duals.in_range in
+    let after : IsNumber (dual_at ys c.args.node +ℤ c.args.d) =
+    subst (λ (f : Family). IsNumber (dual_at f.duals c.args.node +ℤ c.args.d)) (sym c.self.view_is) c.requires.in_range in
+    subst IsNearSum (sym back) (near (dual_at ys c.args.node) (dual_at ys c.args.node +ℤ c.args.d) c.args.d before after refl)
+
 pub invariant_of-self-2 : goal.invariant_of-self-2
 invariant_of-self-2 c =
     let written : c.raise.new.self.values ≡ slice_set c.self.inside.duals.values c.number-number.result (dual_at c.self.inside.duals.values c.number-number.result +ℤ c.args.d) =
     search rules in
-    let back : to_z w128 (of_z w128 c.args.d) ≡ c.args.d = search rules in
+    let wide : to_z w128 (of_z w128 c.args.d) ≡ c.args.d = search rules in
+    let narrow : to_z w64 (of_z w64 c.narrowed.result) ≡ c.narrowed.result = search rules in
+    let back = narrow ∙ c.narrowed.ensures ∙ wide in
     let members = c.of.ensures ∙ read_members c.self.inside _ c.args.node c.number-number.result c.self.invariant c.self.view_is c.requires.node c.number-number.ensures
     c.deref.result.now c.find_run.result c.deref.ensures.value c.find_run.ensures in
     raised_child c.self.inside _ c.args.node c.number-number.result c.args.d c.raise.new.self c.self.invariant c.self.view_is c.requires.node c.number-number.ensures

@@ -1,4 +1,4 @@
-use Rattle.graph_theory.proofs.Common.{◌≡◌, ◌∙◌, ◌+◌, ◌%◌, ◌<◌, ap, ap₂, length, arith, rules, to_z, of_z, w128, ℤ, pos, ◌+ℤ◌, slice_index, int_wrap, wraps}
+use Rattle.graph_theory.proofs.Common.{◌≡◌, ◌∙◌, ◌+◌, ◌%◌, ◌<◌, ap, ap₂, length, arith, rules, to_z, of_z, w64, ℤ, pos, ◌+ℤ◌, slice_index, int_wrap, wraps}
 use Rattle.graph_theory.proofs.Common.{get_or_default}
 use Rattle.blossom_arena.specs.Placement.{SetTables, placement_of, sum_at}
 use Rattle.blossom_arena.proofs.Partitions.{low_set}
@@ -14,6 +14,6 @@ returns c =
     let place : c.index-2.result.now < length c.self.inside.offsets.items = omega (arith, set, c.self.invariant.within c.args.vertex low, c.self.invariant.offsets) in
     let offset : c.index-3.result.now ≡ sum_at c.self.inside.offsets.items (slice_index c.self.inside.sets.items c.args.vertex) =
     c.index-3.ensures ∙ get_or_default c.self.inside.offsets.items c.index-2.result.now c.index-3.result.now (pos 0) place ∙ ap (sum_at c.self.inside.offsets.items) set in
-    let more : to_z w128 ((of_z w128 c.index.result.now + of_z w128 c.index-3.result.now) % 340282366920938463463374607431768211456)
-    ≡ int_wrap w128 (c.index.result.now +ℤ c.index-3.result.now) = search (rules, wraps) in
-    more ∙ ap₂ (λ (x z : ℤ). int_wrap w128 (x +ℤ z)) base offset ∙ ap (λ (t : SetTables). (placement_of t).inner c.args.vertex) c.self.view_is
+    let more : to_z w64 ((of_z w64 c.index.result.now + of_z w64 c.index-3.result.now) % 18446744073709551616)
+    ≡ int_wrap w64 (c.index.result.now +ℤ c.index-3.result.now) = search (rules, wraps) in
+    more ∙ ap₂ (λ (x z : ℤ). int_wrap w64 (x +ℤ z)) base offset ∙ ap (λ (t : SetTables). (placement_of t).inner c.args.vertex) c.self.view_is

@@ -1,4 +1,4 @@
-use Rattle.graph_theory.proofs.Common.{◌≡◌, ◌∙◌, sym, ◌+◌, ◌-◌, ◌%◌, ◌<◌, ap, ap₂, length, refl, arith, rules, to_z, of_z, w128, ℤ, pos, ◌+ℤ◌}
+use Rattle.graph_theory.proofs.Common.{◌≡◌, ◌∙◌, sym, ◌+◌, ◌-◌, ◌%◌, ◌<◌, ap, ap₂, length, refl, arith, rules, to_z, of_z, w64, ℤ, pos, ◌+ℤ◌}
 use Rattle.graph_theory.proofs.Common.{◌-ℤ◌, ℕ, subst, slice_index, slice_set, int_wrap, wraps, get_or_default, length-set}
 use Rattle.blossom_arena.specs.Placement.{SetTables, placement_of, put_in, sum_at, tables_of, whole_at}
 use Rattle.blossom_arena.proofs.Partitions.{low_set, put_is, set_within}
@@ -13,14 +13,14 @@ returns c =
     c.inner.ensures ∙ ap (λ (t : SetTables). (placement_of t).inner c.args.vertex) (sym c.self.view_is) in
     let offset : c.index.result.now ≡ sum_at c.self.inside.offsets.items c.args.set = c.index.ensures
     ∙ get_or_default c.self.inside.offsets.items c.args.set c.index.result.now (pos 0) low_offset in
-    let left : to_z w128 (((of_z w128 c.inner.result + of_z w128 c.args.y) % 340282366920938463463374607431768211456
-    + (340282366920938463463374607431768211456 - of_z w128 c.index.result.now)) % 340282366920938463463374607431768211456)
-    ≡ int_wrap w128 (int_wrap w128 (c.inner.result +ℤ c.args.y) -ℤ c.index.result.now) = search (rules, wraps) in
+    let left : to_z w64 (((of_z w64 c.inner.result + of_z w64 c.args.y) % 18446744073709551616
+    + (18446744073709551616 - of_z w64 c.index.result.now)) % 18446744073709551616)
+    ≡ int_wrap w64 (int_wrap w64 (c.inner.result +ℤ c.args.y) -ℤ c.index.result.now) = search (rules, wraps) in
     let size = length-set c.self.inside.sets.items c.args.vertex c.args.set in
     record {
       len = size ∙ ap (λ (t : SetTables). length t.sets) c.self.view_is;
       placement = put_is (tables_of c.self.inside) _ _ c.args.vertex c.args.set c.args.y low (omega (arith, low, c.self.invariant.bases)) size refl
-          (ap (slice_set c.self.inside.bases.items c.args.vertex) (left ∙ ap₂ (λ (x z : ℤ). int_wrap w128 (int_wrap w128 (x +ℤ c.args.y) -ℤ z)) sum offset))
+          (ap (slice_set c.self.inside.bases.items c.args.vertex) (left ∙ ap₂ (λ (x z : ℤ). int_wrap w64 (int_wrap w64 (x +ℤ c.args.y) -ℤ z)) sum offset))
           ∙ ap (λ (t : SetTables). put_in (placement_of t) c.args.vertex c.args.set c.args.y) c.self.view_is;
     }
 
