@@ -210,21 +210,6 @@ impl Arena {
         total(&self.duals, self.chain(v))
     }
 
-    /// The duals of all nodes that hold a vertex, added up, if the sum is known to fit. It takes
-    /// constant time.
-    pub fn near_sum(&self, vertex: VertexId) -> i64
-        requires vertex { is_vertex self.now.vertex_count vertex ≡ true }
-        requires near { IsNearSum (dual_at self.now.duals vertex
-            +ℤ held_by (dual_at self.now.duals) self.now.blossoms vertex) }
-
-        // The duals of all nodes that hold a vertex, added up.
-        ensures near_sum { result ≡ dual_at self.now.duals vertex
-            +ℤ held_by (dual_at self.now.duals) self.now.blossoms vertex }
-        ensures good { IsFamily self.now }
-    {
-        self.dual_sum(vertex) as i64
-    }
-
     /// Adds d, in doubled units, to the dual of a node. The sum lies within 10^18, and is
     /// nonnegative for a blossom.
     pub fn add_dual(&mut self, node: NodeId, d: i128)
