@@ -26,10 +26,10 @@ use weighted_graph::Graph;
 /// A search over one graph: blossoms with their duals, a matching of the outermost nodes, and
 /// trees. A step of a search is a look at an edge of the graph that it was made for, also one from
 /// a vertex by `incidence`; an event (a grow, a shrink, an expand, an augment); or a change of the
-/// duals. The ends of its mates and parents are read from its own copy, which counts none.
-/// `labels`, `parents` and `mates` stand by node number, with place 0 unused; a parent or a mate is
-/// given by the edge to it. `circuit` has room for n links. `graph` is a copy of the graph that the
-/// search was made for, and `incidence` its edges by vertex, which no call changes. `queue` has the
+/// duals. The ends of its mates and parents are read from `graph`, which counts none. `labels`,
+/// `parents` and `mates` stand by node number, with place 0 unused; a parent or a mate is given by
+/// the edge to it. `circuit` has room for n links. `graph` is the graph that the search was made
+/// for, or a copy of it, and `incidence` its edges by vertex, which no call changes. `queue` has the
 /// moment of each event that can come, by `clock`, the sum of the changes of duals since no tree
 /// stood. `standing` lists the nodes in trees by tree, each with a vertex of the root of its tree,
 /// and `scanned` has the vertices whose edges are looked at after a step.
