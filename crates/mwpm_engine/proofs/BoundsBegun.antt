@@ -1,11 +1,12 @@
 -- Where no tree stands there need be no bounds, and none is stale.
 use Rattle.std.specs.Prelude.{◌/◌}
-use Rattle.alt_forest.proofs.Common.{◌≡◌, ◌∙◌, ℕ, zero, suc, ◌+◌, ◌-◌, ◌<◌, ◌≤◌, ℤ, Bool, false, cond, length, Option, None, replicate, refl, sym, ap}
-use Rattle.alt_forest.proofs.Common.{subst, arith, ⊎_elim, vec_len, get_or-replicate, get_or_past, length-replicate, cases_lt, Multigraph, edges_around, sum_to-same, sum_to-zero}
-use Rattle.alt_forest.proofs.Common.{outermost, Label, Out, Moments, no_moments, state_of, dual_sum, node_limit, outer_not_out, inner_not_out}
+use Rattle.alt_forest.proofs.Common.{◌≡◌, ◌∙◌, ℕ, zero, suc, ◌+◌, ◌-◌, ◌<◌, ◌≤◌, ℤ, pos, neg_ℤ, ◌*ℤ◌, ◌≤ℤ◌, Bool, true, false, cond, length, [], Option, None, replicate, refl, sym, ap}
+use Rattle.alt_forest.proofs.Common.{subst, arith, ints, ⊎_elim, vec_len, get_or-replicate, get_or_past, length-replicate, cases_lt, Multigraph, edges_around, sum_to-same, sum_to-zero}
+use Rattle.alt_forest.proofs.Common.{WEIGHT_LIMIT, dual_at, is_vertex, outermost, Label, Out, Moments, no_moments, state_of, dual_sum, node_limit, outer_not_out, inner_not_out}
+use Rattle.alt_forest.proofs.Fresh.{alone_dual_sum}
 use Rattle.alt_forest.specs.declared.search.Search.{Search}
 use Rattle.event_bounds.specs.declared.bounds.EventBounds.{EventBounds}
-use Rattle.event_bounds.specs.Bounds.{HasPlaces, ComesUp, IsBounding, bound_of, hint_of, key_of}
+use Rattle.event_bounds.specs.Bounds.{HasNearSums, HasPlaces, ComesUp, IsBounding, bound_of, hint_of, key_of}
 use Rattle.event_bounds.specs.Looks.{is_stale, is_stale_at, stale_ends}
 use Rattle.event_bounds.proofs.Gives.{key_none as no_key}
 use Rattle.mwpm_engine.specs.Passes.{IsReady}
@@ -30,10 +31,20 @@ no_bound edges nodes (suc k) = ⊎_elim
 comes_none : (l : Label) (sum clock : ℤ) (key moment : Option ℤ) → l ≡ Out → key ≡ None → moment ≡ None → ComesUp l sum clock key moment
 comes_none l sum clock key moment out none is = subst (λ x. ComesUp x sum clock key moment) (sym out) (subst (λ k. ComesUp Out sum clock k moment) (sym none) is)
 
-pub begins_bounding : (s : Search) (b : EventBounds) (edges nodes : ℕ) → IsReady s → HasPlaces s.graph b → b.moments ≡ no_moments edges nodes → ((v : ℕ) → hint_of b v ≡ 0) → IsBounding s b
-begins_bounding s b edges nodes ready places moments none = record {
+-- where no blossom holds a vertex and the clock is 0 its sum is its dual, and so in the range in which a pass begins
+pub near_begun : (s : Search) → s.arena.blossoms ≡ [] → s.clock ≡ pos 0
+    → ((v : ℕ) → is_vertex s.graph.vertices v ≡ true → (neg_ℤ WEIGHT_LIMIT ≤ℤ dual_at s.arena.duals v) × (dual_at s.arena.duals v ≤ℤ (pos 3 *ℤ WEIGHT_LIMIT)))
+    → HasNearSums (state_of s) s.clock
+near_begun s alone clock in_range = record {
+  low = λ v is. let sum = alone_dual_sum (state_of s) (dual_at s.arena.duals v) v alone refl in let own = in_range v is in omega (arith, ints, sum, own.0, clock);
+  high = λ v is. let sum = alone_dual_sum (state_of s) (dual_at s.arena.duals v) v alone refl in let own = in_range v is in omega (arith, ints, sum, own.1, clock);
+}
+
+pub begins_bounding : (s : Search) (b : EventBounds) (edges nodes : ℕ) → IsReady s → HasNearSums (state_of s) s.clock → HasPlaces s.graph b → b.moments ≡ no_moments edges nodes → ((v : ℕ) → hint_of b v ≡ 0) → IsBounding s b
+begins_bounding s b edges nodes ready near places moments none = record {
   low = ready.queued.low;
   high = ready.queued.high;
+  near = near;
   places = places;
   hints = λ v vertex some. absurd (some (none v));
   keys = λ e v u w to new outer other. outer_not_out (sym outer ∙ ready.labels (outermost s.arena.blossoms v));

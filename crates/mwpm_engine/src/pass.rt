@@ -1,7 +1,7 @@
 ghost use Rattle.std.specs.Prelude.{◌≡◌, ◌≤◌, ◌+◌, ◌*◌, []};
 ghost use Rattle.alt_forest.specs.Searches.{IsSound, state_of};
 ghost use Rattle.alt_forest.specs.Counts.{exposed_count};
-ghost use Rattle.event_bounds.specs.Bounds.{HasPlaces};
+ghost use Rattle.event_bounds.specs.Bounds.{HasNearSums, HasPlaces};
 ghost use Rattle.dual_change.specs.Changes.{IsPossible};
 ghost use Rattle.mwpm_engine.specs.Solutions.{size_of_graph};
 ghost use Rattle.mwpm_engine.specs.Passes.{IsSamePass, IsReady, IsRunning, EndsPass, Happens};
@@ -45,6 +45,7 @@ pub(crate) fn pass<L: Ledger>(
     steps: &mut Steps<L>,
 ) -> bool
     requires ready { IsReady search.old }
+    requires near { HasNearSums (state_of search.old) search.old.clock }
     requires places { HasPlaces search.old.graph bounds.old }
     requires blossoms { search.old.arena.blossoms ≡ [] }
     ensures ends { EndsPass search.new result }

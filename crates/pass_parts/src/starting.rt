@@ -1,4 +1,6 @@
-ghost use Rattle.std.specs.Prelude.{◌≡◌, ◌≤◌, ◌+◌, ◌*◌, ℕ, true, None, [], length};
+ghost use Rattle.std.specs.Prelude.{◌≡◌, ◌≤◌, ◌+◌, ◌*◌, ℕ, pos, neg_ℤ, ◌*ℤ◌, ◌≤ℤ◌, true, None, []};
+ghost use Rattle.std.specs.Prelude.{length};
+ghost use Rattle.graph_theory.specs.declared.limits.TheConstants.{WEIGHT_LIMIT};
 ghost use Rattle.blossom_arena.specs.Family.{dual_at, is_vertex};
 ghost use Rattle.blossom_arena.specs.declared.label.Label.TheVariants.{Out};
 ghost use Rattle.alt_forest.specs.declared.weights.Weights.TheVariants.{Given, Zero};
@@ -52,6 +54,9 @@ pub fn start_pass<L: Ledger>(search: &mut Search, steps: &mut Steps<L>)
     ensures parity { (u v : ℕ) → is_vertex search.old.graph.vertices u ≡ true
         → is_vertex search.old.graph.vertices v ≡ true
         → SameParity (dual_at search.new.arena.duals u) (dual_at search.new.arena.duals v) }
+    ensures in_range { (v : ℕ) → is_vertex search.old.graph.vertices v ≡ true
+        → (neg_ℤ WEIGHT_LIMIT ≤ℤ dual_at search.new.arena.duals v)
+        × (dual_at search.new.arena.duals v ≤ℤ (pos 3 *ℤ WEIGHT_LIMIT)) }
 
     // No tight edge can be added to that matching.
     ensures maximal { (e : ℕ) → JoinsExposed (state_of search.new) e → ⊥ }

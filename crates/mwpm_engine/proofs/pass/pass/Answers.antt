@@ -14,7 +14,7 @@ use Rattle.mwpm_engine.proofs.pass.pass.Goals as goal
 pub plant_all_bounding-some-requires-clause-bounding : goal.plant_all_bounding-some-requires-clause-bounding
 plant_all_bounding-some-requires-clause-bounding g c =
     let s : Search = c.args.search.now in let b : EventBounds = c.clear.new.self in let e = c.clear.ensures in
-    begins_bounding s b _ _ c.requires.ready (cleared_places s.graph c.args.bounds.now b e.moments e.hints e.keys c.requires.places) e.moments e.none
+    begins_bounding s b _ _ c.requires.ready c.requires.near (cleared_places s.graph c.args.bounds.now b e.moments e.hints e.keys c.requires.places) e.moments e.none
 
 pub returns-then-not-some : goal.returns-then-not-some
 returns-then-not-some g c =

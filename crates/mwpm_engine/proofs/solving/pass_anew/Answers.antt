@@ -4,6 +4,7 @@ use Rattle.alt_forest.specs.declared.search.Search.{Search}
 use Rattle.alt_forest.specs.declared.weights.Weights.{Weights}
 use Rattle.event_bounds.specs.Bounds.{HasPlaces}
 use Rattle.mwpm_engine.proofs.BoundedDuals.{unpacked_within}
+use Rattle.mwpm_engine.proofs.BoundsBegun.{near_begun}
 use Rattle.mwpm_engine.proofs.PassCounts.{exposed_few, pass_paid}
 use Rattle.mwpm_engine.proofs.Concluded.{stuck_excludes}
 use Rattle.mwpm_engine.proofs.CertificateRuns.{unpacked}
@@ -45,6 +46,13 @@ pass-done-requires-clause-ready g c =
       labels = λ a. ap (λ (t : Search). label_at t.labels.items a) e.rest ∙ c.begin.ensures.labels a;
       bounded = e.bounded (λ given. subst HasPerfect (sym c.begin.ensures.graph) (c.requires.perfect (sym c.begin.ensures.weights ∙ given)));
     }
+
+pub pass-done-requires-clause-near : goal.pass-done-requires-clause-near
+pass-done-requires-clause-near g c =
+    let t : Search = c.start_pass.new.search in let e = c.start_pass.ensures in
+    let graph : c.begin.new.self.graph ≡ t.graph = sym (ap (λ (x : Search). x.graph) e.rest) in
+    near_begun t (ap (λ (x : Search). x.arena.blossoms) e.rest ∙ c.begin.ensures.blossoms) (ap (λ (x : Search). x.clock) e.rest ∙ c.begin.ensures.clock)
+    (λ v is. e.in_range v (ap (λ (k : Multigraph). is_vertex k.vertices v) graph ∙ is))
 
 pub pass-done-requires-clause-places : goal.pass-done-requires-clause-places
 pass-done-requires-clause-places g c =

@@ -1,4 +1,4 @@
-use Rattle.alt_forest.proofs.Common.{◌≡◌, ◌∙◌, ℕ, ◌+◌, ◌*◌, ◌≤◌, length, refl, sym, ap, subst, arith, Multigraph, is_vertex, state_of}
+use Rattle.alt_forest.proofs.Common.{◌≡◌, ◌∙◌, ℕ, ◌+◌, ◌*◌, ◌≤◌, ℤ, neg_ℤ, ◌≤ℤ◌, length, refl, sym, ap, subst, arith, ints, WEIGHT_LIMIT, IsWeight, Multigraph, is_vertex, state_of}
 use Rattle.alt_forest.specs.declared.search.Search.{Search}
 use Rattle.pass_parts.specs.Bounds.{HasPerfect}
 use Rattle.greedy_start.specs.Sweeps.{sweep_looks}
@@ -10,6 +10,10 @@ pub lift_all-requires-clause-begun : goal.lift_all-requires-clause-begun
 lift_all-requires-clause-begun g c =
     let s = c.args.search.now in
     begun_anew (state_of s) s.graph s.weights s.start refl refl c.requires.blossoms c.requires.labels c.requires.start c.requires.duals
+
+-- what isn't below the start isn't below the least weight there is
+from_start : (start dual : ℤ) → IsWeight start → start ≤ℤ dual → neg_ℤ WEIGHT_LIMIT ≤ℤ dual
+from_start start dual weight low = omega (arith, ints, weight, low)
 
 -- the looks of all of it
 all_looks : (old first second new k m : ℕ) → first ≤ old + 2 * m → second ≤ first + 2 * m → new ≤ second + k * m → new ≤ old + (4 + k) * m
@@ -36,6 +40,7 @@ returns g c =
       bounded = λ perfect. bounded_begun (state_of t) t.start e.begun (λ w. subst HasPerfect graph (perfect (sym weights ∙ given t.weights w)));
       parity = λ u v is_u is_v. one_parity (state_of t) t.start u v e.begun (ap (λ (k : Multigraph). is_vertex k.vertices u) (sym graph) ∙ is_u)
           (ap (λ (k : Multigraph). is_vertex k.vertices v) (sym graph) ∙ is_v);
+      in_range = λ v is. let there = ap (λ (k : Multigraph). is_vertex k.vertices v) (sym graph) ∙ is in (from_start t.start _ e.begun.start_weight (e.begun.low v there), e.begun.high v there);
       maximal = e.maximal;
       exposed = exposed_most s t is c.requires.mates;
       steps = all_looks c.args.steps.now c.lift_all.new.steps c.start_all.new.steps c.sweep_twice.new.steps (sweep_looks s.graph.vertices) (length s.graph.edges)
