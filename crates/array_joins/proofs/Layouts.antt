@@ -20,7 +20,7 @@ edges-more os k o below is =
 
 -- where the edges of the answer at an index begin
 pub begins : (os : List SetOutcome) (k : ℕ) (all : List ℤ) → all ≡ all_items (edge_lists (take k os)) → pos (length all) ≡ offset_at (edge_lists os) k
-begins os k all is = ap (λ (xs : List ℤ). pos (length xs)) (is ∙ ap all_items (sym (take-map k os)))
+begins os k all is = ap (λ (xs : List ℤ). pos (length xs)) (is ∙ ap all_items (sym (take-map edge_numbers k os)))
 
 -- one offset more
 pub offsets-more : (os : List SetOutcome) (k : ℕ) (before all : List ℤ) → before ≡ tabled (offset_at (edge_lists os)) k → all ≡ all_items (edge_lists (take k os))

@@ -8,7 +8,8 @@ use Rattle.std.proofs.Math.Bool.{or-true, or-false}
 use Rattle.gadget_base.proofs.Common.{tabled, tabled-at, tabled-length, tabled-same, is-tabled}
 use Rattle.array_call.specs.Faults.{is_vertex}
 use Rattle.array_joins.specs.declared.outcome.TerminalFault.{TerminalFault}
-use Rattle.array_joins.specs.Terminals.{mark_at, network_with, HasNoTerminals}
+use Rattle.array_joins.specs.declared.outcome.TerminalRule.TheVariants.{OutOfRange, Repeated}
+use Rattle.array_joins.specs.Terminals.{terminal_rule, mark_at, network_with, HasNoTerminals}
 use Rattle.array_joins.specs.Marked.{sound_part, cleared, unmarked, left_at}
 
 -- ---- vertices
@@ -52,9 +53,9 @@ pub pass-held : (h : Bool → ℕ → ℕ) (n : ℕ) (ts : List ℕ) (v : ℕ) �
 pass-held h n ts v off =
     tabled-same (λ k. h (holds ts (k + 1)) k) (λ k. h (holds (ts ++ v ∷ []) (k + 1)) k) n
     (λ k b. ap (λ (t : Bool). h t k) (sym (held-other ts v (k + 1) (λ same.
-      let there : is_vertex n (k + 1) ≡ true = within-vertex n (k + 1) (omega arith) (omega (arith, b)) in
-      let gone : true ≡ false = sym there ∙ ap (is_vertex n) same ∙ off in
-      absurd cc))))
+    let there : is_vertex n (k + 1) ≡ true = within-vertex n (k + 1) (omega arith) (omega (arith, b)) in
+    let gone : true ≡ false = sym there ∙ ap (is_vertex n) same ∙ off in
+    absurd cc))))
 
 -- ---- the instance with terminals
 
@@ -98,7 +99,10 @@ part-held : (fault : Option TerminalFault) (ts : List ℕ) (v : ℕ) → holds (
 part-held None ts v on = on
 part-held (Some fault) ts v on = holds-of_take ts fault.index v on
 
-gone : (a b : Bool) → (a ≡ true → b ≡ true) → cond b 0 (cond a 1 0) ≡ 0
+abbrev unless : Bool → ℕ → ℕ
+unless b x = cond b 0 x
+
+gone : (a b : Bool) → (a ≡ true → b ≡ true) → unless b (cond a 1 0) ≡ 0
 gone a true h = refl
 gone true false h = absurd (let e : false ≡ true = h refl in cc)
 gone false false h = refl
@@ -110,5 +114,45 @@ unmarked-with i fault ts bare =
     let marks = network_with i part in
     let size : vertices marks ≡ n = vertices-with i part in
     let at : (k : ℕ) → k < n → left_at marks ts k ≡ 0 = λ k b.
-        ap (λ (x : ℕ). cond (holds ts (k + 1)) 0 x) (tabled-at (mark_at part) n k 0 b) ∙ gone (holds part (k + 1)) (holds ts (k + 1)) (part-held fault ts (k + 1)) in
+    ap (λ (x : ℕ). cond (holds ts (k + 1)) 0 x) (tabled-at (mark_at part) n k 0 b) ∙ gone (holds part (k + 1)) (holds ts (k + 1)) (part-held fault ts (k + 1)) in
     ap (λ (vs : List ℕ). record i { values = vs }) (ap (tabled (left_at marks ts)) size ∙ tabled-same (left_at marks ts) (λ k. 0) n at ∙ sym bare)
+
+-- ---- which rule a terminal breaks
+
+-- a terminal that breaks no rule is a vertex
+broken : (there held : Bool) → cond (not there) (Some OutOfRange) (cond held (Some Repeated) None) ≡ None → there ≡ true
+broken true held e = refl
+broken false held e = absurd cc
+
+pub ruled-within : (n : ℕ) (before : List ℕ) (v : ℕ) → terminal_rule n before v ≡ None → (1 ≤ v) × (v ≤ n)
+ruled-within n before v e = vertex-within n v (broken (is_vertex n v) (holds before v) e)
+
+pub ruled-out : (n : ℕ) (before : List ℕ) (v : ℕ) → is_vertex n v ≡ false → terminal_rule n before v ≡ Some OutOfRange
+ruled-out n before v e = cond-true _ _ _ (not_from_false (is_vertex n v) e)
+
+ruled : (there held : Bool) → there ≡ true → cond (not there) (Some OutOfRange) (cond held (Some Repeated) None) ≡ cond held (Some Repeated) None
+ruled true held e = refl
+ruled false held e = absurd cc
+
+held-by : (b : Bool) (x : ℕ) → x ≡ unless (not b) 1 → (x ≡ 0 → b ≡ false) × ((x ≡ 0 → ⊥) → b ≡ true)
+held-by true x e = ((λ z. absurd (omega (arith, e, z))), (λ z. refl))
+held-by false x e = ((λ z. refl), (λ z. absurd (z e)))
+
+as-unless : (b : Bool) (x : ℕ) → x ≡ cond b 1 0 → x ≡ unless (not b) 1
+as-unless true x e = e
+as-unless false x e = e
+
+-- with the value of the vertex where the terminals before are marked
+pub ruled-free : (i : Network) (before : List ℕ) (v x : ℕ) → is_vertex (vertices i) v ≡ true → x ≡ value_of (network_with i before) v → x ≡ 0
+    → terminal_rule (vertices i) before v ≡ None
+ruled-free i before v x there is none =
+    let in_range = vertex-within (vertices i) v there in
+    let held = held-by (holds before v) x (as-unless (holds before v) x (is ∙ value-with i before v in_range.0 in_range.1)) in
+    ruled (is_vertex (vertices i) v) (holds before v) there ∙ cond-false _ _ _ (held.0 none)
+
+pub ruled-held : (i : Network) (before : List ℕ) (v x : ℕ) → is_vertex (vertices i) v ≡ true → x ≡ value_of (network_with i before) v → (x ≡ 0 → ⊥)
+    → terminal_rule (vertices i) before v ≡ Some Repeated
+ruled-held i before v x there is some =
+    let in_range = vertex-within (vertices i) v there in
+    let held = held-by (holds before v) x (as-unless (holds before v) x (is ∙ value-with i before v in_range.0 in_range.1)) in
+    ruled (is_vertex (vertices i) v) (holds before v) there ∙ cond-true _ _ _ (held.1 some)

@@ -71,7 +71,7 @@ done-few a starts terminals os is =
 pub joins-few : (a : Arrays) (starts terminals : List ℕ) (numbers : List ℤ) (s : ArrayStatus) → GivesJoins a starts terminals numbers s
     → length numbers ≤ joins_room (set_count starts) (edge_count a)
 joins-few a starts terminals numbers status.Done g =
-    subst (λ (zs : List ℤ). length zs ≤ joins_room (set_count starts) (edge_count a)) (sym g.3) (done-few a starts terminals g.1 g.2)
+    subst (λ (zs : List ℤ). length zs ≤ joins_room (set_count starts) (edge_count a)) (sym g.1.2) (done-few a starts terminals g.1.0 g.1.1)
 joins-few a starts terminals numbers status.Rejected g = absurd g
 joins-few a starts terminals numbers status.Malformed g = (let two : length numbers ≡ 2 = ap (λ (zs : List ℤ). length zs) g.2 in omega (arith, two))
 joins-few a starts terminals numbers status.TooLarge g = absurd g

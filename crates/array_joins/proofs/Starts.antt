@@ -1,6 +1,6 @@
 -- Starts without a fault never fall, and the last is the number of terminals.
 use Rattle.mb_problem.proofs.Common.{◌≡◌, ◌≢◌, ℕ, zero, suc, ◌+◌, ◌-◌, ◌<◌, ◌≤◌, Bool, true, false, cond, not, eqb, ltb, ◌&&◌, ◌||◌, List, length, slice_index, Option, None, Some}
-use Rattle.mb_problem.proofs.Common.{refl, ap, sym, ◌∙◌, subst, arith, eqb-true, eq-eqb, ltb-false, not-false, and_cases}
+use Rattle.mb_problem.proofs.Common.{refl, ap, sym, ◌∙◌, subst, arith, eqb-true, eq-eqb, ne_eqb, cond-false, ltb-false, not-false, and_cases}
 use Rattle.std.proofs.lemmas.Bool.{or_parts}
 use Rattle.array_joins.specs.First.{first_of}
 use Rattle.array_joins.specs.Sets.{set_count, falls_at, ends_wrong_at, wrong_start, starts_fault}
@@ -24,7 +24,10 @@ sound starts count k e h =
 
 -- none is less than the one before it
 step : (starts : List ℕ) (count j : ℕ) → starts_fault starts count ≡ None → suc j < length starts → slice_index starts j ≤ slice_index starts (suc j)
-step starts count j e h = ltb-false (slice_index starts (suc j)) (slice_index starts j) (sound starts count (suc j) e h).0
+step starts count j e h =
+    let kept : falls_at starts (suc j) ≡ ltb (slice_index starts (suc j)) (slice_index starts j) =
+    cond-false _ _ _ (ne_eqb (suc j) 0 (λ z. omega (arith, z))) ∙ ap (λ (n : ℕ). ltb (slice_index starts (suc j)) (slice_index starts n)) (let back : suc j - 1 ≡ j = omega arith in back) in
+    ltb-false (slice_index starts (suc j)) (slice_index starts j) (sym kept ∙ (sound starts count (suc j) e h).0)
 
 matched : (a b : Bool) → a ≡ true → (a && not b) ≡ false → b ≡ true
 matched true b on e = not-false b e

@@ -1,5 +1,6 @@
-ghost use Rattle.std.specs.Prelude.{◌≡◌, ◌+◌, ◌≤◌, [], ◌∷◌, length, pos, None, IfOk};
+ghost use Rattle.std.specs.Prelude.{◌≡◌, ◌+◌, ◌≤◌, ◌<◌, ◌^◌, [], ◌∷◌, length, pos, None, IfOk};
 ghost use Rattle.mb_problem.specs.declared.kind.Kind.TheVariants.{TJoin};
+ghost use Rattle.array_call.specs.declared.rule.ArrayRule.TheVariants.{Starts};
 ghost use Rattle.array_call.specs.Rules.{number_of_rule};
 ghost use Rattle.array_call.specs.Made.{IsFaultless};
 ghost use Rattle.array_call.specs.Arrays.{arrays_of, edge_count};
@@ -27,6 +28,16 @@ fn malformed(alloc: Global, rule: ArrayRule, index: i64) -> Result<ArrayAnswer, 
     let numbers = Vec::from_slice(alloc, &[i64::from(rule.number()), index])?;
     let status = ArrayStatus::Malformed;
     Ok(ArrayAnswer { numbers, status })
+}
+
+/// The answer to a wrong start at an index.
+fn wrong_start(alloc: Global, index: usize) -> Result<ArrayAnswer, OutOfMemory>
+    requires { index < 2 ^ 63 }
+    ensures numbers { IfOk result (λ a. a.numbers.items
+        ≡ pos (number_of_rule Starts) ∷ pos index ∷ []) }
+    ensures status { IfOk result (λ a. a.status ≡ ArrayStatus.Malformed) }
+{
+    malformed(alloc, ArrayRule::Starts, index as i64)
 }
 
 /// The answer to each set of terminals as numbers, on the graph of arrays without a fault.
@@ -71,7 +82,7 @@ fn answered_unless<L: Ledger>(
         result }
 {
     match starts_fault(starts, terminals.len()) {
-        Some(index) => malformed(alloc, ArrayRule::Starts, index as i64),
+        Some(index) => wrong_start(alloc, index),
         None => answered(alloc, arrays, instance, starts, terminals, steps),
     }
 }

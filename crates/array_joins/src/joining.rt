@@ -1,5 +1,5 @@
 //! The answers to sets of terminals.
-ghost use Rattle.std.specs.Prelude.{◌≡◌, ◌+◌, ◌≤◌, length, true, false, None, IfOk};
+ghost use Rattle.std.specs.Prelude.{◌≡◌, ◌+◌, ◌≤◌, ◌<◌, ◌^◌, length, true, false, None, IfOk};
 ghost use Rattle.graph_theory.specs.Limits.{IsWithinLimits};
 ghost use Rattle.mb_problem.specs.declared.answer.Parity.TheVariants.{Values};
 ghost use Rattle.mb_problem.specs.Joins.{HasJoin};
@@ -18,7 +18,7 @@ use certificates::is_within_limits;
 use graph_parts::{JoinOrOdd, join_or_odd};
 use least_joins::least_join;
 use mb_base::{OutOfMemory, Steps};
-use mb_problem::{Instance, Join, Kind, Parity, gadget_size};
+use mb_problem::{EDGE_LIMIT, Instance, Join, Kind, Parity, gadget_size};
 use std::alloc::Global;
 use std::sync::ledger::Ledger;
 
@@ -39,6 +39,7 @@ fn joined(instance: &Instance, join: Join) -> SetOutcome
     requires least { IsLeastJoin Values instance.now join.edges }
     ensures { AnswersMarked None instance.now result }
 {
+    prove!(instance.edges() <= EDGE_LIMIT);
     let weight = weight_of(instance, join.edges.as_slice());
     SetOutcome::Joined { join, weight }
 }
@@ -86,7 +87,8 @@ fn answer_set<L: Ledger>(
     terminals: &[u32],
     steps: &mut Steps<L>,
 ) -> Result<SetOutcome, OutOfMemory>
-    requires { HasNoTerminals instance.old }
+    requires bare { HasNoTerminals instance.old }
+    requires few { length terminals.now < 2 ^ 32 }
     ensures answer { IfOk result (AnswersSet instance.old terminals.now) }
     ensures steps { steps.new ≤ steps.old + set_steps instance.old terminals.now }
     ensures same { instance.new ≡ instance.old }

@@ -36,7 +36,7 @@ fn detail_number(outcome: &SetOutcome) -> i64
     match outcome {
         SetOutcome::Joined { weight, .. } => *weight,
         SetOutcome::NoJoin => 0,
-        SetOutcome::Faulty(fault) => fault.index as i64,
+        SetOutcome::Faulty(fault) => i64::from(fault.index),
         SetOutcome::TooLarge => 0,
     }
 }

@@ -1,5 +1,5 @@
 //! Terminals as the values of an instance.
-ghost use Rattle.std.specs.Prelude.{◌≡◌, ℕ, List};
+ghost use Rattle.std.specs.Prelude.{◌≡◌, ◌<◌, ◌^◌, ℕ, List, length};
 ghost use Rattle.mb_problem.specs.Network.{Network, vertices};
 ghost use Rattle.array_call.specs.Faults.{is_vertex};
 ghost use Rattle.array_joins.specs.Terminals.{terminal_rule, first_fault, network_with};
@@ -32,13 +32,17 @@ fn terminal_rule(instance: &Instance, terminal: u32) -> Option<TerminalRule>
 
 /// Gives the terminals the value 1, up to the first that has a fault, and answers that fault.
 pub(crate) fn mark(instance: &mut Instance, terminals: &[u32]) -> Option<TerminalFault>
-    requires { HasNoTerminals instance.old }
+    requires bare { HasNoTerminals instance.old }
+    requires few { length terminals.now < 2 ^ 32 }
     ensures fault { result ≡ first_fault (vertices instance.old) terminals.now }
     ensures marked { instance.new ≡ network_with instance.old (sound_part result terminals.now) }
 {
     for k in 0..terminals.len() {
         if let Some(rule) = terminal_rule(instance, terminals[k]) {
-            return Some(TerminalFault { rule, index: k });
+            return Some(TerminalFault {
+                rule,
+                index: k as u32,
+            });
         }
         instance.set_value(VertexId::new(terminals[k]), 1);
     }

@@ -13,7 +13,7 @@ pub enum TerminalRule {
 #[derive(Clone, Copy)]
 pub struct TerminalFault {
     pub rule: TerminalRule,
-    pub index: usize,
+    pub index: u32,
 }
 
 /// The answer to a set of terminals.

@@ -1,6 +1,6 @@
 //! The sets of terminals: whether `starts` says where each begins, and the terminals of each.
-ghost use Rattle.std.specs.Prelude.{◌≡◌, ◌+◌, ◌<◌, length, None, Some, if◌then◌else◌, ◌||◌};
-ghost use Rattle.array_joins.specs.Sets.{set_at, set_count, falls_at, ends_wrong_at, wrong_start};
+ghost use Rattle.std.specs.Prelude.{◌≡◌, ◌<◌, ◌^◌, ◌||◌, length, None, IfSome};
+ghost use Rattle.array_joins.specs.Sets.{set_at, set_count, falls_at, ends_wrong_at};
 ghost use Rattle.array_joins.specs.Sets.{starts_fault};
 
 /// Whether the first start isn't 0, or another one is less than the start before it.
@@ -22,30 +22,25 @@ fn ends_wrong_at(starts: &[u32], count: usize, k: usize) -> bool
     k + 1 == starts.len() && starts[k] as usize != count
 }
 
-/// The index itself if the start there is wrong.
-fn wrong_start(starts: &[u32], count: usize, k: usize) -> Option<usize>
+/// Whether the start at an index is wrong, for so many terminals.
+fn is_wrong(starts: &[u32], count: usize, k: usize) -> bool
     requires { k < length starts.now }
-    ensures { result ≡ wrong_start starts.now count k }
+    ensures { result ≡ (falls_at starts.now k || ends_wrong_at starts.now count k) }
 {
-    if falls_at(starts, k) {
-        return Some(k);
-    }
-    if ends_wrong_at(starts, count, k) {
-        return Some(k);
-    }
-    None
+    falls_at(starts, k) || ends_wrong_at(starts, count, k)
 }
 
 /// The index of the first wrong start, for so many terminals; 0 if there is no start at all.
 pub(crate) fn starts_fault(starts: &[u32], count: usize) -> Option<usize>
-    ensures { result ≡ starts_fault starts.now count }
+    ensures fault { result ≡ starts_fault starts.now count }
+    ensures small { IfSome result (λ k. k < 2 ^ 63) }
 {
     if starts.is_empty() {
         return Some(0);
     }
     for k in 0..starts.len() {
-        if let Some(index) = wrong_start(starts, count, k) {
-            return Some(index);
+        if is_wrong(starts, count, k) {
+            return Some(k);
         }
     }
     None
@@ -55,7 +50,12 @@ pub(crate) fn starts_fault(starts: &[u32], count: usize) -> Option<usize>
 pub(crate) fn set_at<'a>(starts: &[u32], terminals: &'a [u32], k: usize) -> &'a [u32]
     requires there { k < set_count starts.now }
     requires starts { starts_fault starts.now (length terminals.now) ≡ None }
-    ensures { result.now ≡ set_at starts.now terminals.now k }
+    ensures set { result.now ≡ set_at starts.now terminals.now k }
+    ensures few { length result.now < 2 ^ 32 }
 {
-    &terminals[starts[k] as usize..starts[k + 1] as usize]
+    let begin = starts[k] as usize;
+    let end = starts[k + 1] as usize;
+    prove!(begin <= end);
+    prove!(end <= terminals.len());
+    &terminals[begin..end]
 }
