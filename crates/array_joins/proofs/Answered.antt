@@ -1,6 +1,6 @@
 -- One answer more, the steps of one search more, and arrays without terminals.
-use Rattle.mb_problem.proofs.Common.{◌≡◌, ℕ, ◌+◌, ◌<◌, ◌≤◌, ltb, ◌||◌, List, [], ◌∷◌, ◌++◌, Option, None, Some, refl, ap, ap₂, sym, ◌∙◌, subst, arith, cond-false, slice_index_or, sum_to}
-use Rattle.mb_problem.proofs.Common.{Network, vertices, IsJoinOf, HasSize, IsWithinLimits, ListsJoin, listed_counts, odd_at, sum_to-grows, sum_to-more, ◌-◌, length, Result, Ok, Err, IfOk, option_or, option_map, pos}
+use Rattle.mb_problem.proofs.Common.{◌≡◌, ℕ, ◌+◌, ◌<◌, ◌≤◌, ◌||◌, List, [], ◌∷◌, ◌++◌, Option, None, Some, refl, ap, ap₂, sym, ◌∙◌, subst, arith, cond-false, slice_index_or}
+use Rattle.mb_problem.proofs.Common.{Network, IsWithinLimits, sum_to-grows, sum_to-more, length, Result, Ok, Err, IfOk, option_or, option_map, pos}
 use Rattle.std.proofs.lemmas.Bool.{le-ltb}
 use Rattle.graph_theory.specs.declared.limits.TheConstants.{GRAPH_VERTEX_LIMIT, GRAPH_EDGE_LIMIT}
 use Rattle.graph_theory.specs.Limits.{Size}

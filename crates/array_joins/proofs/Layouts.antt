@@ -1,6 +1,6 @@
 -- The edges of one answer more.
-use Rattle.mb_problem.proofs.Common.{◌≡◌, ℕ, ◌+◌, ◌<◌, ℤ, pos, List, [], ◌∷◌, ◌++◌, length, map, take, get_or, refl, sym, ap, ap₂, ◌∙◌, arith, length-map, map-append, take_more, append-nil}
-use Rattle.graph_theory.proofs.Common.{take-map, take_all}
+use Rattle.mb_problem.proofs.Common.{◌≡◌, ℕ, ◌+◌, ◌<◌, ℤ, pos, List, [], ◌∷◌, ◌++◌, length, take, get_or, sym, ap, ap₂, ◌∙◌, length-map, map-append, take_more, append-nil}
+use Rattle.graph_theory.proofs.Common.{take-map}
 use Rattle.std.proofs.lemmas.List.Concat.{flat_map-append}
 use Rattle.gadget_base.proofs.Common.{tabled, tabled-more}
 use Rattle.array_call.specs.Layout.{all_items, offset_at, offsets}

@@ -1,6 +1,6 @@
 -- How many numbers there are at most.
-use Rattle.mb_problem.proofs.Common.{◌≡◌, ℕ, zero, suc, ◌+◌, ◌*◌, ◌-◌, ◌≤◌, pos, ℤ, List, [], ◌∷◌, ◌++◌, length, map, Option, None, Some, refl, ap, sym, ◌∙◌, subst, arith, length-append}
-use Rattle.mb_problem.proofs.Common.{length-map, Network, vertices, odd_at, mul-le-mul_left}
+use Rattle.mb_problem.proofs.Common.{◌≡◌, ℕ, suc, ◌+◌, ◌*◌, ◌≤◌, pos, ℤ, List, [], ◌∷◌, ◌++◌, length, map, Option, refl, ap, sym, ◌∙◌, subst, arith, length-append}
+use Rattle.mb_problem.proofs.Common.{length-map, Network, vertices, odd_at}
 use Rattle.mb_problem.specs.declared.answer.Parity.TheVariants.{Values}
 use Rattle.gadget_base.proofs.Common.{tabled-length}
 use Rattle.array_call.specs.declared.calling.ArrayStatus.{ArrayStatus}

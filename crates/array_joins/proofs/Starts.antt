@@ -1,6 +1,6 @@
 -- Starts without a fault never fall, and the last is the number of terminals.
-use Rattle.mb_problem.proofs.Common.{◌≡◌, ◌≢◌, ℕ, zero, suc, ◌+◌, ◌-◌, ◌<◌, ◌≤◌, Bool, true, false, cond, not, eqb, ltb, ◌&&◌, ◌||◌, List, length, slice_index, Option, None, Some}
-use Rattle.mb_problem.proofs.Common.{refl, ap, sym, ◌∙◌, subst, arith, eqb-true, eq-eqb, ne_eqb, cond-false, ltb-false, not-false, and_cases}
+use Rattle.mb_problem.proofs.Common.{◌≡◌, ℕ, zero, suc, ◌+◌, ◌-◌, ◌<◌, ◌≤◌, Bool, true, false, cond, not, eqb, ltb, ◌&&◌, ◌||◌, List, length, slice_index, Option, None, Some}
+use Rattle.mb_problem.proofs.Common.{refl, ap, sym, ◌∙◌, subst, arith, eqb-true, eq-eqb, ne_eqb, cond-false, ltb-false, not-false}
 use Rattle.std.proofs.lemmas.Bool.{or_parts}
 use Rattle.array_joins.specs.First.{first_of}
 use Rattle.array_joins.specs.Sets.{set_count, falls_at, ends_wrong_at, wrong_start, starts_fault}

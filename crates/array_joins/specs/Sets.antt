@@ -1,5 +1,5 @@
 -- Sets of terminals, one after another in one list.
-use Rattle.std.specs.Prelude.{◌≡◌, ℕ, ◌+◌, ◌-◌, ◌==◌, nat_lt, Bool, not, ◌||◌, ◌&&◌, if◌then◌else◌}
+use Rattle.std.specs.Prelude.{ℕ, ◌+◌, ◌-◌, ◌==◌, nat_lt, Bool, not, ◌||◌, ◌&&◌, if◌then◌else◌}
 use Rattle.std.specs.Prelude.{List, length, take, drop, slice_index, Option, None, Some}
 use Rattle.gadget_base.specs.Blocks.{tabled}
 use Rattle.array_joins.specs.First.{first_of}

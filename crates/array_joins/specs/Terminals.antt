@@ -1,5 +1,5 @@
 -- A set of terminals: what can be wrong with it, and the instance that it makes of a graph.
-use Rattle.std.specs.Prelude.{◌≡◌, ℕ, ◌+◌, not, ◌&&◌, if◌then◌else◌, List, length, take}
+use Rattle.std.specs.Prelude.{◌≡◌, ℕ, ◌+◌, not, if◌then◌else◌, List, length, take}
 use Rattle.std.specs.Prelude.{slice_index, Option, None, Some}
 use Rattle.std.specs.Option.{option_map}
 use Rattle.graph_theory.specs.Parts.{holds}

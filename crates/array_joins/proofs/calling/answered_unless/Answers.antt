@@ -1,4 +1,4 @@
-use Rattle.mb_problem.proofs.Common.{◌≡◌, ℕ, List, length, Some, sym, ◌∙◌, subst, pos}
+use Rattle.mb_problem.proofs.Common.{sym, ◌∙◌, subst}
 use Rattle.array_call.specs.Arrays.{arrays_of}
 use Rattle.array_joins.specs.Terminals.{HasNoTerminals}
 use Rattle.array_joins.proofs.Answered.{no-terminals, start-given}

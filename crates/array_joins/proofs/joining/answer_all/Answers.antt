@@ -1,6 +1,4 @@
-use Rattle.mb_problem.proofs.Common.{◌≡◌, ℕ, ◌+◌, ◌-◌, ◌≤◌, List, length, sym, ap, ◌∙◌, arith, Network}
-use Rattle.array_joins.specs.Sets.{set_at, set_count}
-use Rattle.array_joins.specs.Outcomes.{set_steps, steps_before, all_steps}
+use Rattle.mb_problem.proofs.Common.{ℕ, List, ◌∙◌, arith, Network}
 use Rattle.array_joins.proofs.Answered.{steps-grow, steps-more, counted, set-answered}
 use Rattle.array_joins.proofs.joining.answer_all.Goals as goal
 

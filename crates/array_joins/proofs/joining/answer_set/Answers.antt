@@ -1,8 +1,7 @@
-use Rattle.mb_problem.proofs.Common.{◌≡◌, ℕ, ◌+◌, ◌≤◌, List, Option, sym, ap, ◌∙◌, subst, arith, IfOk, IfOk-weaker, Network, vertices}
+use Rattle.mb_problem.proofs.Common.{◌≡◌, ℕ, List, Option, ap, ◌∙◌, subst, arith, IfOk-weaker, Network}
 use Rattle.array_joins.specs.declared.outcome.TerminalFault.{TerminalFault}
-use Rattle.array_joins.specs.declared.outcome.SetOutcome.{SetOutcome}
-use Rattle.array_joins.specs.Terminals.{first_fault, network_with}
-use Rattle.array_joins.specs.Marked.{sound_part, unmarked}
+use Rattle.array_joins.specs.Terminals.{network_with}
+use Rattle.array_joins.specs.Marked.{unmarked}
 use Rattle.array_joins.specs.Outcomes.{AnswersMarked, AnswersSet, steps_by, set_steps}
 use Rattle.array_joins.proofs.Marks.{unmarked-with}
 use Rattle.array_joins.proofs.Answered.{marked-answers, marked-steps}

@@ -1,4 +1,4 @@
-use Rattle.mb_problem.proofs.Common.{◌≡◌, ℕ, ◌≤◌, List, length, sym, ap, ◌∙◌, arith, odd_at}
+use Rattle.mb_problem.proofs.Common.{◌≡◌, ℕ, ◌≤◌, List, length, ap, arith, odd_at}
 use Rattle.mb_problem.specs.declared.answer.Parity.TheVariants.{Values}
 use Rattle.array_joins.proofs.Leasts.{join-few}
 use Rattle.array_joins.proofs.joining.joined.Goals as goal

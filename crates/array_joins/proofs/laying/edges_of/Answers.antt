@@ -1,7 +1,7 @@
-use Rattle.mb_problem.proofs.Common.{◌≡◌, ℤ, pos, List, ◌++◌, ◌∷◌, [], length, get_or, sym, ap, ◌∙◌, rules}
+use Rattle.mb_problem.proofs.Common.{◌≡◌, ℤ, pos, List, ◌++◌, ◌∷◌, [], length, ap, ◌∙◌, rules}
 use Rattle.array_joins.specs.declared.outcome.SetOutcome.{SetOutcome}
 use Rattle.array_joins.specs.Numbers.{edge_numbers}
-use Rattle.array_joins.proofs.Layouts.{edges-more, offsets-more, offsets-whole}
+use Rattle.array_joins.proofs.Layouts.{edges-more, offsets-more}
 use Rattle.array_joins.proofs.laying.edges_of.Goals as goal
 
 pub loop-outcome-preserved : goal.loop-outcome-preserved

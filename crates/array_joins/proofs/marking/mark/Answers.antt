@@ -1,4 +1,4 @@
-use Rattle.mb_problem.proofs.Common.{◌≡◌, ℕ, ◌+◌, ◌-◌, ◌++◌, ◌∷◌, [], ◌≤◌, List, length, take, get_or, slice_index, slice_set, Some, None, sym, ap, ◌∙◌, arith, take_more, Network, vertices, option_map}
+use Rattle.mb_problem.proofs.Common.{◌≡◌, ℕ, ◌-◌, ◌≤◌, List, length, take, slice_index, slice_set, Some, None, sym, ap, ◌∙◌, arith, take_more, Network, vertices, option_map}
 use Rattle.array_joins.specs.declared.outcome.TerminalRule.{TerminalRule}
 use Rattle.array_joins.specs.Terminals.{fault, terminal_rule, terminal_fault, network_with}
 use Rattle.array_joins.proofs.Firsts.{none-more, first-found}

@@ -1,4 +1,4 @@
-use Rattle.mb_problem.proofs.Common.{◌≡◌, ℕ, List, true, false, sym, ap, ◌∙◌, Network, vertices, value_of}
+use Rattle.mb_problem.proofs.Common.{◌≡◌, ℕ, sym, ap, ◌∙◌, Network, vertices, value_of}
 use Rattle.array_call.specs.Faults.{is_vertex}
 use Rattle.array_joins.specs.Terminals.{network_with}
 use Rattle.array_joins.proofs.Marks.{ruled-out, ruled-free, ruled-held, vertices-with}

@@ -1,4 +1,4 @@
-use Rattle.mb_problem.proofs.Common.{◌≡◌, ℕ, ◌+◌, ◌++◌, ◌∷◌, [], List, take, get_or, sym, ap, ◌∙◌, take_more, Network}
+use Rattle.mb_problem.proofs.Common.{ℕ, List, take, get_or, sym, ap, ◌∙◌, take_more, Network}
 use Rattle.array_joins.specs.Marked.{cleared, unmarked}
 use Rattle.array_joins.proofs.Marks.{unmarked-none, unmarked-more}
 use Rattle.array_joins.proofs.marking.unmark.Goals as goal

@@ -1,4 +1,4 @@
-use Rattle.mb_problem.proofs.Common.{◌≡◌, ℕ, ◌+◌, ◌≤◌, List, length, slice_index, arith}
+use Rattle.mb_problem.proofs.Common.{length, arith}
 use Rattle.array_joins.proofs.Starts.{bounds}
 use Rattle.array_joins.proofs.sets.set_at.Goals as goal
 

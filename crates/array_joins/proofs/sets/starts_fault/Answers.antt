@@ -1,5 +1,5 @@
-use Rattle.mb_problem.proofs.Common.{◌≡◌, ℕ, List, length, Some, None, true, cond, sym, ap, ◌∙◌, arith, cond-true, cond-false, ne_eqb, ◌||◌}
-use Rattle.array_joins.specs.Sets.{wrong_start, falls_at, ends_wrong_at}
+use Rattle.mb_problem.proofs.Common.{◌≡◌, ℕ, List, length, Some, sym, ◌∙◌, arith, cond-true, cond-false, ne_eqb}
+use Rattle.array_joins.specs.Sets.{wrong_start}
 use Rattle.array_joins.proofs.Firsts.{first-found}
 use Rattle.array_joins.proofs.sets.starts_fault.Goals as goal
 

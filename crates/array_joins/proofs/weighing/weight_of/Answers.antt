@@ -1,5 +1,4 @@
-use Rattle.mb_problem.proofs.Common.{◌≡◌, ℕ, ◌+◌, ◌*◌, ◌+ℤ◌, pos, List, length, drop, get_or, ap, arith, sym, ◌∙◌, ints, at_drop_more, get_or_read, edge_of, walk_weight, graph_of}
-use Rattle.std.proofs.lemmas.List.{drop_all}
+use Rattle.mb_problem.proofs.Common.{◌≡◌, ℕ, ◌+◌, ◌+ℤ◌, List, drop, get_or, ap, arith, ◌∙◌, ints, at_drop_more, get_or_read, edge_of, walk_weight, graph_of}
 use Rattle.array_joins.proofs.weighing.weight_of.Goals as goal
 
 pub loop-edge-preserved : goal.loop-edge-preserved
