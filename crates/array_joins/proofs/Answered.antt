@@ -74,7 +74,8 @@ pub set-answered : (i j : Network) (starts ts set : List ℕ) (k : ℕ) (os ps :
 set-answered i j starts ts set k os ps o same is more each one =
     let here : AnswersSet i (set_at starts ts k) o = subst (λ (m : Network). AnswersSet m (set_at starts ts k) o) same (subst (λ (s : List ℕ). AnswersSet j s o) is one) in
     subst (AnswersEach i (tabled (set_at starts ts) (k + 1))) (sym more)
-    (subst (λ (sets : List (List ℕ)). AnswersEach i sets (os ++ o ∷ [])) (sym (tabled-more (set_at starts ts) k)) (each-more i (tabled (set_at starts ts) k) os (set_at starts ts k) o each here))
+    (subst (λ (sets : List (List ℕ)). AnswersEach i sets (os ++ o ∷ [])) (sym (tabled-more (set_at starts ts) k))
+    (each-more i (tabled (set_at starts ts) k) os (set_at starts ts k) o each here))
 
 -- a wrong start of faultless arrays
 pub start-given : {E : Type 0} (a : Arrays) (starts ts : List ℕ) (index : ℕ) (r : Result ArrayAnswer E) → array_fault TJoin a ≡ None

@@ -1,6 +1,7 @@
 -- Values that are written at terminals.
 use Rattle.mb_problem.proofs.Common.{◌≡◌, ◌≢◌, ℕ, ◌+◌, ◌-◌, ◌<◌, ◌≤◌, Bool, true, false, cond, not, ltb, ◌||◌, List, [], ◌∷◌, ◌++◌, slice_index, slice_set}
-use Rattle.mb_problem.proofs.Common.{Option, None, Some, refl, ap, sym, ◌∙◌, arith, inl, inr, cases_eq, cases_Bool, cond-true, cond-false, eq-eqb, ne_eqb, lt-ltb, ltb-true, ltb-false, not-true}
+use Rattle.mb_problem.proofs.Common.{Option, None, Some, refl, ap, sym, ◌∙◌, arith, inl, inr, cases_eq, cases_Bool, cond-true, cond-false, eq-eqb, ne_eqb, lt-ltb, ltb-true, ltb-false}
+use Rattle.mb_problem.proofs.Common.{not-true}
 use Rattle.mb_problem.proofs.Common.{and_from, and_parts, not_from_false, get_or-set_same, get_or-set_other, length-set, holds-push, Network, vertices, value_of, holds}
 use Rattle.graph_theory.proofs.Members.{holds-of_take}
 use Rattle.std.proofs.lemmas.Bool.{le-ltb}

@@ -112,17 +112,18 @@ fn answer<L: Ledger>(
     }
 }
 
-/// Answers many sets of terminals on one graph, whose vertices have no values: a T-join of minimum
-/// weight for each, or why there is none (Schrijver, Combinatorial Optimization, volume A, chapter
-/// 29). The set at an index begins at this index of `starts` and ends where the next one begins, so
-/// there is one start more than there are sets.
+/// Finds a T-join of minimum weight for each of many sets of terminals on one graph, or says why
+/// there is none (Schrijver, Combinatorial Optimization, volume A, chapter 29).
 ///
-/// The graph is read once, and each set takes time linear in it besides one search. The numbers
-/// are, for each set in order, which answer it is: 0 a join, 1 no join, 2 a terminal that isn't a
-/// vertex, 3 a repeated terminal, 4 a graph of ports past a limit; then for each set the weight of
-/// the join, or the index of the faulty terminal within the set, else 0; then where the edges of
-/// each set begin and those of the last end; then the edges. If the arrays or `starts` have a fault,
-/// the numbers are its rule and its index, and if there isn't enough memory there are none.
+/// The set at an index begins at this index of `starts` and ends where the next one begins, so
+/// there is one start more than there are sets. The graph is read once; each set takes time linear
+/// in it, and at most one search.
+///
+/// The numbers are, for all sets in order, which answer it is (0 a join, 1 no join, 2 a terminal
+/// out of range, 3 a repeated terminal, 4 a graph of ports past a limit); the weight of the join,
+/// or the index of the faulty terminal within its set, else 0; where the edges of each set begin
+/// and those of the last end; and the edges. If the arrays or `starts` have a fault, the numbers
+/// are its rule and its index. If memory runs out there are none.
 pub fn joins_to<L: Ledger>(
     alloc: Global,
     arrays: &InstanceArrays<'_>,

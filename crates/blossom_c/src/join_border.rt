@@ -39,8 +39,8 @@ fn answer_sets<L: Ledger>(
     hand_over(&answer, output, used)
 }
 
-/// Answers many sets of terminals on one graph, given as arrays: `array_joins::joins_to`. The set at
-/// an index begins at this index of `starts` and ends where the next one begins, so there is one
+/// Answers many sets of terminals on one graph, given as arrays: `array_joins::joins_to`. The set
+/// at an index begins at this index of `starts` and ends where the next one begins, so there is one
 /// start more than there are sets. What is left is told as by `blossom_solve_arrays`.
 #[unsafe(no_mangle)]
 pub extern "C" fn blossom_join_arrays(

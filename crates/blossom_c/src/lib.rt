@@ -1,7 +1,7 @@
 //! The calls for C and for languages that call C, over the caller's buffers: `match_cli::call`
-//! over texts, `array_call::answer_to` over arrays, and `array_joins::joins_to` over a graph and many
-//! sets of terminals. It depends on these three. It promises of what it leaves in a buffer what they
-//! promise of their answers, for every input and every buffer.
+//! over texts, `array_call::answer_to` over arrays, and `array_joins::joins_to` over a graph and
+//! many sets of terminals. It depends on these three. It promises of what it leaves in a buffer
+//! what they promise of their answers, for every input and every buffer.
 #![tactic(auto)]
 
 mod array_border;

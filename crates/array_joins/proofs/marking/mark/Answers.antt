@@ -37,7 +37,8 @@ loop-k-preserved c =
     let high = (ruled-within (vertices i) (take k ts) v here).1 in
     let put : Network → List ℕ → Network = λ j vs. record j { values = vs } in
     record {
-      marked = c.set_value.ensures.set ∙ ap (λ (w : ℕ). put c.loop-k.instance (slice_set c.loop-k.instance.values (w - 1) 1)) c.new.ensures ∙ ap (λ (j : Network). record j { values = slice_set j.values (v - 1) 1 }) c.loop-k.invariant.marked ∙ with-more i (take k ts) v low high
+      marked = c.set_value.ensures.set ∙ ap (λ (w : ℕ). put c.loop-k.instance (slice_set c.loop-k.instance.values (w - 1) 1)) c.new.ensures
+          ∙ ap (λ (j : Network). record j { values = slice_set j.values (v - 1) 1 }) c.loop-k.invariant.marked ∙ with-more i (take k ts) v low high
           ∙ ap (network_with i) (sym (take_more ts k 0 c.loop-k-test.true));
       none = none-more (terminal_fault (vertices i) ts) k c.loop-k.invariant.none (ap (option_map (λ (r : TerminalRule). fault r k)) here);
     }
