@@ -11,6 +11,7 @@ SYMBOLS = (
     "blossom_solve_arrays",
     "blossom_check_arrays",
     "blossom_certificate_size",
+    "blossom_join_arrays",
     "blossom_abi",
 )
 

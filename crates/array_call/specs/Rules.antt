@@ -3,7 +3,7 @@ use Rattle.std.specs.Prelude.{ℕ}
 use Rattle.array_call.specs.declared.rule.ArrayRule.{ArrayRule}
 use Rattle.array_call.specs.declared.rule.ArrayRule.TheVariants.{Lengths, Vertices, Edges, End}
 use Rattle.array_call.specs.declared.rule.ArrayRule.TheVariants.{Weight, Capacity, Value, Negative}
-use Rattle.array_call.specs.declared.rule.ArrayRule.TheVariants.{PathEnds}
+use Rattle.array_call.specs.declared.rule.ArrayRule.TheVariants.{PathEnds, Starts}
 use Rattle.cert_check.specs.declared.rule.DocRule.{DocRule}
 use Rattle.cert_check.specs.declared.rule.DocRule.TheVariants.{DocForm, KindDiffers, DocRange}
 use Rattle.cert_check.specs.declared.rule.DocRule.TheVariants.{NotFeasible, WeightDiffers}
@@ -22,6 +22,7 @@ number_of_rule Capacity = 6
 number_of_rule Value = 8
 number_of_rule Negative = 9
 number_of_rule PathEnds = 10
+number_of_rule Starts = 11
 
 -- the rules of documents, which are tried in another order
 abbrev pub number_of_document_rule : DocRule → ℕ

@@ -23,6 +23,8 @@ pub enum ArrayRule {
     Negative,
     /// Other than two vertices have odd values, and the kind asks for two ends.
     PathEnds,
+    /// Where the sets of a call over many sets begin isn't a list of starts.
+    Starts,
 }
 
 impl ArrayRule {
@@ -41,6 +43,7 @@ impl ArrayRule {
             ArrayRule::Value => 8,
             ArrayRule::Negative => 9,
             ArrayRule::PathEnds => 10,
+            ArrayRule::Starts => 11,
         }
     }
 }

@@ -1,3 +1,4 @@
 pub mod KindNumbers
 pub mod Handing
 pub mod Rooms
+pub mod JoinRooms

@@ -9,7 +9,7 @@ use Rattle.blossom_c.specs.declared.array_ending.ArrayEnding.TheVariants.{Answer
 use Rattle.blossom_c.specs.ArrayEndings.{number_of_solving, number_of_status, number_of_array_ending, EndsSolving, TellsSolving}
 
 -- an answer has the number of its status
-answered-other : (s : ArrayStatus) → number_of_status s ≢ 9
+pub answered-other : (s : ArrayStatus) → number_of_status s ≢ 9
 answered-other Done same = absurd cc
 answered-other Rejected same = absurd cc
 answered-other Malformed same = absurd cc

@@ -20,7 +20,7 @@ use std::marker::Brand;
 use std::sync::ledger::{Blank, Ledger};
 
 /// Hands an answer over to the buffer, where it has room for it.
-fn hand_over(answer: &ArrayAnswer, output: &mut [i64], used: &mut usize) -> ArrayEnding
+pub(crate) fn hand_over(answer: &ArrayAnswer, output: &mut [i64], used: &mut usize) -> ArrayEnding
     ensures { HandsOver answer.now.numbers.items answer.now.status output.old output.new used.new
         result }
 {

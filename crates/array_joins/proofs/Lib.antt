@@ -1,0 +1,7 @@
+mod Firsts
+mod Starts
+mod Marks
+mod Leasts
+mod Layouts
+pub mod Sizes
+mod Answered

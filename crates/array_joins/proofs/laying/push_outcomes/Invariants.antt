@@ -1,0 +1,6 @@
+use Rattle.mb_problem.proofs.Common.{◌≡◌, ◌++◌, map, take}
+use Rattle.array_joins.specs.Numbers.{outcome_number}
+use Rattle.array_joins.proofs.laying.push_outcomes.Given as goal
+
+abbrev pub invariant-loop-outcome : goal.invariant-loop-outcome
+invariant-loop-outcome l = l.numbers.items ≡ l.initial.numbers.items ++ map outcome_number (take l.outcome-index l.outcomes)

@@ -1,0 +1,7 @@
+pub mod First
+pub mod Sets
+pub mod Terminals
+pub mod Marked
+pub mod Outcomes
+pub mod Numbers
+pub mod Answers
