@@ -573,7 +573,9 @@ class Decoder:
             joins = self._errors_of_all(shots, executor)
             flipped = [list(plan.flipped(errors, self._faults)) for errors in joins]
             predictions = like(shots, flipped, "uint8", (len(joins), self._faults))
-            weights = like(shots, list(map(plan.weight, joins)), "float64")
+            weights = None
+            if return_weights:
+                weights = like(shots, list(map(plan.weight, joins)), "float64")
         else:
             predictions, weights = decoded(plan, entries, self._faults, self._in_full,
                                            len(self._edges) > SMALL)

@@ -224,7 +224,8 @@ def decoded(plan: Plan, entries: Any, observables: int, in_full: InFull,
     numpy. apart: whether threads may share the shots."""
     numpy: Any = sys.modules["numpy"]
     always = numpy.frombuffer(bytes(plan.flipped([], observables)) + b"\0", "uint8")[:-1]
-    predictions = numpy.tile(always, (len(entries), 1))
+    predictions = numpy.empty((len(entries), observables), "uint8")
+    predictions[:] = always
     weights = numpy.full(len(entries), plan.always[0], "int64")
     columns = [columns_of(numpy, plan, part) for part in plan.parts]
     pieces = [piece for number in range(len(plan.parts))
