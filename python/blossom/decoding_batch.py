@@ -145,7 +145,7 @@ def errors_of(plan: Plan, fired: Sequence[AbstractSet[int]], in_full: InFull,
 
 def entries_in(shots: Any, plan: Plan) -> Any:
     """The shots as an array of truth values, if they are an array of numpy with a row of 0 and 1
-    for each. None: they have another form, or one is no syndrome of this graph."""
+    for each. None: they have another form, or one isn't a syndrome of this graph."""
     numpy: Any = sys.modules.get("numpy")
     if (numpy is None or type(shots) is not numpy.ndarray or shots.ndim != 2
             or shots.dtype.kind not in "biu" or shots.shape[1] not in plan.lengths):
