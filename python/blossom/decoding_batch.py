@@ -37,7 +37,7 @@ class Refused(NamedTuple):
 class Sets(NamedTuple):
     """Sets of terminals in the graph of a part, in the order of their shots.
 
-    number: of the part. shots: the number of the shot of each set. starts, terminals: as the
+    number: of the part. shots: the index of the shot of each set. starts, terminals: as the
     library takes them, arrays of 32 bits."""
 
     number: int
@@ -78,7 +78,7 @@ def has_calls(plan: Plan) -> bool:
 
 @contextlib.contextmanager
 def of_shot(number: int) -> Iterator[None]:
-    """Within it, what an error says begins with the number of this shot."""
+    """Within it, what an error says begins with the index of this shot."""
     try:
         yield
     except (BlossomError, TypeError) as error:
@@ -88,8 +88,8 @@ def of_shot(number: int) -> Iterator[None]:
 
 def in_full_each(refused: Iterable[Refused], plan: Plan,
                  in_full: InFull) -> Iterator[Tuple[int, List[int]]]:
-    """The shots of these sets in their order, with the decoder's edges of each. What there is none
-    for is raised, with the number of the shot."""
+    """The shots of these sets in their order, with the decoder's edges of each. If one has none,
+    that is raised with the index of the shot."""
     for shot, number, nodes in sorted(refused, key=itemgetter(0, 1)):
         with of_shot(shot):
             errors = in_full(plan.parts[number], nodes)
