@@ -9,8 +9,8 @@ much of it the program took, or the call of the library. Forms and pictures that
 installed are left out, and so are rows of the library where there is none. It ends with what has a
 bound, and fails where one is passed: columns of numpy by the library, whose answer is the places of
 the edges, and the check of that answer, beside the calls for C; a tour of streets beside the
-program; a graph of networkx; and a decoder's shots by the library, one by one and in batches, beside
-the call for C."""
+program; a graph of networkx; and a decoder's shots by the library, one by one and in batches,
+beside the call for C."""
 import ctypes
 import importlib
 import io

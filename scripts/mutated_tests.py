@@ -118,7 +118,7 @@ OF_C = {
     "blossom.hpp": ["c_structs.c_plus_plus", "c_structs.temporaries", "c_joins.c_plus_plus"],
 }
 OF_HEADER = (
-    "c_compilers.numbers_and_types c_compilers.header_in_c_plus_plus c_arrays.faults"
+    "c_compilers.numbers_and_types c_compilers.header_in_c_plus_plus c_arrays.faults c_joins.faults"
     " c_edge.statuses c_edge.no_such_call c_edge.python_numbers c_edge.longest_answer"
     " c_edge.version"
 ).split()

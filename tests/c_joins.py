@@ -331,7 +331,8 @@ def c_plus_plus(program, library, tests):
 def example(program, library, tests):
     """The example compiles with each library without a warning and runs; so it does with sanitizers
     on the caller's side."""
-    source, sanitized = os.path.join(os.path.abspath(CAPI), "example_joins.c"), c_compilers.SANITIZED
+    source = os.path.join(os.path.abspath(CAPI), "example_joins.c")
+    sanitized = c_compilers.SANITIZED
     for name, more in (("libblossom.so", []), ("libblossom.a", []), ("libblossom.so", sanitized)):
         what = "the example of joins%s with %s" % (", sanitized," if more else "", name)
         text = ran(tests, what, c_compilers.C, source, name, more)

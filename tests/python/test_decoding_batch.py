@@ -170,7 +170,8 @@ class Asked(unittest.TestCase):
         by = By(Function(0, answer((1, 2, 3), 3)))
         decoder = self.decoder(by, edges)
         shots = [[1, 0, 0, 1], [0, 0, 0, 0]]
-        self.assertEqual(decoder.decode_batch(shots[:1], return_weights=True), ([[1, 1, 0, 1]], [2]))
+        self.assertEqual(decoder.decode_batch(shots[:1], return_weights=True),
+                         ([[1, 1, 0, 1]], [2]))
         decoder.ensure_num_fault_ids(5)
         found, weights = decoder.decode_batch(numpy.array(shots), return_weights=True)
         self.assertEqual(found.tolist(), [[1, 1, 0, 1, 0], [0, 1, 0, 1, 0]])
@@ -251,7 +252,8 @@ class Forms(unittest.TestCase):
         decoder = self.decoder([(0, node, 1) for node in range(1, 1500)])
         shot = [1, 1] + [0] * 1498
         for given in ([shot], wanted("numpy").array([shot])):
-            told = self.refused(decoder, given, blossom.LimitExceeded, "^shot 0: instance too large")
+            told = self.refused(decoder, given, blossom.LimitExceeded,
+                                "^shot 0: instance too large")
             with self.assertRaises(blossom.LimitExceeded) as alone:
                 decoder.decode(shot)
             self.assertEqual(str(told), "shot 0: %s" % alone.exception)
