@@ -1,14 +1,18 @@
 """Tests of the call for the joins of many sets of terminals of the library for C: each set beside a
 solve of its own, sets and arrays that are wrong, buffers of each length, equal calls in several
-threads, and the structs, blossom.hpp and the example by compilers."""
+threads, memory, and the structs, blossom.hpp and the example by compilers."""
 import concurrent.futures
 import ctypes
 import os
 import random
+import resource
+import subprocess
+import sys
 
 import c_compilers
 from c_arrays import Arrays, array
 from c_header import CAPI
+from c_parts import Library
 from c_structs import STANDARDS, ran
 
 JOINED, NO_JOIN, OUT_OF_RANGE, REPEATED, TOO_LARGE = range(5)
@@ -42,16 +46,25 @@ class Joins:
     def __init__(self, library):
         self.call = library.object.blossom_join_arrays
 
-    def over(self, graph, starts, terminals, room):
-        """The status, how many numbers there are, and the whole buffer, which is one number longer
-        than is said and full of sevens before."""
+    def prepared(self, graph, starts, terminals, room):
+        """A call as a function that takes nothing, and answers its status, how many numbers there
+        are, and the whole buffer, which is one number longer than is said and full of sevens
+        before."""
         vertices, *parts = graph
         kinds = [ctypes.c_uint32] * 2 + [ctypes.c_int64] + [ctypes.c_uint32] * 2
         held = [array(kind, part) for kind, part in zip(kinds, (*parts, starts, terminals))]
         output, used = (ctypes.c_int64 * (room + 1))(*[7] * (room + 1)), ctypes.c_size_t(77)
         words = [word for memory, length in held for word in (memory, length)]
-        status = self.call(vertices, *words, output, room, ctypes.byref(used))
-        return status, used.value, list(output)
+
+        def call():
+            status = self.call(vertices, *words, output, room, ctypes.byref(used))
+            return status, used.value, list(output)
+
+        return call
+
+    def over(self, graph, starts, terminals, room):
+        """What such a call answers."""
+        return self.prepared(graph, starts, terminals, room)()
 
     def numbers(self, graph, starts, terminals):
         """The status and the numbers, in a buffer that is never too small."""
@@ -287,6 +300,53 @@ def equal_calls(program, library, tests):
     tests.compare("joins, equal calls", b"", first * 2, at_once)
 
 
+def little_memory(program, library, tests):
+    """Without memory for a call its status says so, and the buffer is as it was."""
+    done = subprocess.run(
+        [sys.executable, os.path.abspath(__file__), "--little-memory"],
+        capture_output=True,
+        text=True,
+        timeout=60,
+    )
+    wanted = "%d 0 True\n" % library.header.statuses["OUT_OF_MEMORY"]
+    tests.compare("joins with little memory", b"", (wanted, ""), (done.stdout, done.stderr))
+
+
+def print_with_little_memory():
+    """Prints what a call comes to that has no memory: the status, the length, and whether the
+    buffer is as it was."""
+    joins, edges = Joins(Library()), 65536
+    call = joins.prepared((2, [1] * edges, [2] * edges, [1] * edges), [0, 0], [], 20)
+    joins.over(EXAMPLE, [0, 2], [1, 4], 20)
+    with open("/proc/self/statm", encoding="ascii") as file:
+        size = int(file.read().split()[0]) * resource.getpagesize() + (1 << 20)
+    resource.setrlimit(resource.RLIMIT_AS, (size, size))
+    status, used, output = call()
+    print(status, used, output == [7] * 21)
+
+
+def memory(program, library, tests):
+    """Ten thousand calls, some of them refused, leave the process as large as it was."""
+    from c_library import resident
+
+    joins = Joins(library)
+    rows = (
+        (EXAMPLE, starts_of(EXAMPLE_SETS), sum(EXAMPLE_SETS, []), 60),
+        (EXAMPLE, starts_of(EXAMPLE_SETS), sum(EXAMPLE_SETS, []), 9),
+        (APART, [0, 2, 5], [1, 2, 3, 4, 0], 20),
+        (APART, [0, 2, 1], [1, 2, 3, 4, 0], 20),
+        ((2, [3], [1], []), [0, 1], [1], 20),
+    )
+    for row in rows * 500:
+        joins.over(*row)
+    before = resident()
+    for row in rows * 2_000:
+        joins.over(*row)
+    grown = (resident() - before) * resource.getpagesize()
+    name = "joins, memory after 10,000 calls (%d bytes more)" % grown
+    tests.compare(name, b"", True, grown < 1 << 20)
+
+
 def structs(program, library, tests):
     """The fields of the structs are the numbers of the call, at each status."""
     text = ran(tests, "joins by structs", c_compilers.C, "joins.c", "libblossom.so")
@@ -350,7 +410,12 @@ PARTS = (
     buffers,
     many_sets,
     equal_calls,
+    little_memory,
+    memory,
     structs,
     c_plus_plus,
     example,
 )
+
+if __name__ == "__main__" and sys.argv[1:] == ["--little-memory"]:
+    print_with_little_memory()
