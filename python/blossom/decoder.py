@@ -745,9 +745,12 @@ class Decoder:
     def _fired_in_all(self, shots: Sequence[Syndrome]) -> List[AbstractSet[int]]:
         """The same of each of these syndromes."""
         fired: List[AbstractSet[int]] = []
-        for number, shot in enumerate(shots):
-            with of_shot(number):
+        try:
+            for shot in shots:
                 fired.append(self._fired(shot))
+        except (BlossomError, TypeError):
+            with of_shot(len(fired)):
+                raise
         return fired
 
     def _fired_in_any(self, syndrome: Syndrome, plan: Plan) -> AbstractSet[int]:

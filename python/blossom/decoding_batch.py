@@ -103,7 +103,7 @@ def sets_of(plan: Plan, fired: Sequence[AbstractSet[int]]) -> List[Sets]:
     for shot, detectors in enumerate(fired):
         for number, nodes in plan.split(detectors):
             sets = every[number]
-            sets.terminals.extend(node + 1 for node in sets.part.graph.terminals(nodes))
+            sets.terminals.extend([node + 1 for node in sets.part.graph.terminals(nodes)])
             sets.starts.append(len(sets.terminals))
             sets.shots.append(shot)
     return every
@@ -115,14 +115,15 @@ def used_in(sets: Sets) -> List[Optional[List[int]]]:
     joins = sets.joins()
     if joins is None:
         return [None] * len(sets.shots)
-    edges = [edge - 1 for edge in joins.edges]
-    weight_at = sets.part.base._numbers.weights.tolist().__getitem__
+    edges, part = joins.edges.tolist(), sets.part
+    weight_at = [0, *part.base._numbers.weights].__getitem__
+    error_at = [-1, *part.errors].__getitem__
     found: List[Optional[List[int]]] = []
     for outcome, weight, begin, end in zip(joins.outcomes, joins.weights, joins.starts,
                                            joins.starts[1:]):
         own = edges[begin:end]
         is_sound = outcome == JOINED and sum(map(weight_at, own)) == weight
-        found.append(sets.part.used(own) if is_sound else None)
+        found.append([error for error in map(error_at, own) if error >= 0] if is_sound else None)
     return found
 
 
