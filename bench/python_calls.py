@@ -9,7 +9,8 @@ much of it the program took, or the call of the library. Forms and pictures that
 installed are left out, and so are rows of the library where there is none. It ends with what has a
 bound, and fails where one is passed: columns of numpy by the library, whose answer is the places of
 the edges, and the check of that answer, beside the calls for C; a tour of streets beside the
-program; a graph of networkx; and a decoder's shots by the library beside the call for C."""
+program; a graph of networkx; and a decoder's shots by the library, one by one and in batches,
+beside the call for C."""
 import ctypes
 import importlib
 import io
@@ -25,8 +26,10 @@ sys.path[0] = os.path.join(TOP, "python")
 
 import blossom  # noqa: E402
 import blossom.library  # noqa: E402
-from blossom.array_library import most_of_brief  # noqa: E402
-from blossom.buffers import parameters  # noqa: E402
+from blossom.array_library import most_of_joins  # noqa: E402
+from blossom.buffers import address  # noqa: E402
+from blossom.decoding_batch import sets_of  # noqa: E402
+from blossom.prepared import graph_words  # noqa: E402
 
 ROUNDS = int(sys.argv[1]) if len(sys.argv) > 1 else 5
 # How many times as long as the call for C a call of columns of numpy may take, and its check.
@@ -37,6 +40,9 @@ MOST_TOUR, MOST_NETWORKX = 3, 100
 # How many microseconds a shot may take beside the call for C on codes of up to how many rows: of 8
 # detectors as a set, and any; and how many rounds it has for each other.
 MOST_USUAL, MOST_BESIDE, BOUND_SIZE, SHOT_ROUNDS = 15, 50, 15, 200
+# How many microseconds a shot of a batch may take beside the call for C on such a code as a row of
+# an array of numpy, and how many shots a batch has.
+MOST_BATCHED, BATCH = 10, 200
 # What has a bound: in words, and whether it is passed.
 bounded = []
 
@@ -195,45 +201,47 @@ def code(size, engine):
                                        for line in lines], engine=engine)
 
 
-def small(by, engine, name):
-    """Graphs of two edges, and shots of a code of 15 rows and columns."""
+def small(by, engine, name, joins):
+    """Graphs of two edges, and shots of a code of 15 rows and columns. joins: what is timed of
+    these."""
     graphs = [[("a", "b", weight), ("b", "c", 3)] for weight in range(200)]
     row("a graph of two edges, %s" % name, lambda:
         [blossom.max_weight_matching(graph, engine=engine).edges for graph in graphs], by, len(graphs))
     decoder, chance = code(15, engine), random.Random(2)
     shots = [set(chance.sample(range(15 * 15), 8)) for _ in range(50)]
     decoder.decode(shots[0])
-    row("a shot of a code, %s" % name, lambda: [decoder.decode(shot) for shot in shots], by,
+    row("a shot of a code, %s" % name, lambda: [decoder.decode(shot) for shot in shots], joins,
         len(shots))
 
 
-def call_of(decoder, shot):
-    """The call for C that a shot comes to, as one that takes nothing."""
-    function = blossom.library.found(None, os.environ.get("BLOSSOM_LIBRARY")).blossom_solve_arrays
-    numbers = decoder.instance(shot)._numbers
-    room, used = (ctypes.c_int64 * most_of_brief(len(numbers.first)))(), ctypes.c_size_t()
-    instance = parameters(blossom.library.KIND_NUMBERS["tjoin"], numbers)
-    given = (blossom.library.TASKS["brief"], *instance, ctypes.addressof(room), len(room),
-             ctypes.byref(used))
+def call_of(decoder, shots):
+    """The call for C that shots come to, as one that takes nothing."""
+    function = blossom.library.found(None, os.environ.get("BLOSSOM_LIBRARY")).blossom_join_arrays
+    sets, = sets_of(decoder._planned(), shots)
+    numbers = sets.part.base._numbers
+    room = (ctypes.c_int64 * most_of_joins(len(shots), len(numbers.first)))()
+    used = ctypes.c_size_t()
+    given = (*graph_words(numbers), *address(sets.starts), *address(sets.terminals),
+             ctypes.addressof(room), len(room), ctypes.byref(used))
 
     def call():
         function(*given)
-        return numbers, room  # (what stands at the addresses)
+        return sets, room  # (what stands at the addresses)
 
     return call
 
 
-def beside(name, decode, call):
-    """Prints the row of a shot: the least time of many of its calls, and of as many calls for C
-    between them. What the first takes beside the second."""
+def beside(name, decode, call, rounds=SHOT_ROUNDS, shots=1):
+    """Prints the row of a shot: the least time of many calls for so many shots, and of as many
+    calls for C between them. What the first takes beside the second."""
     wholes, alone = [], []
-    for _ in range(SHOT_ROUNDS * ROUNDS):
-        start = time.perf_counter()
+    for _ in range(rounds * ROUNDS):
+        start = time.process_time()
         decode()
-        between = time.perf_counter()
+        between = time.process_time()
         call()
-        wholes.append(between - start)
-        alone.append(time.perf_counter() - between)
+        wholes.append((between - start) / shots)
+        alone.append((time.process_time() - between) / shots)
     show(name, min(wholes), min(alone))
     return min(wholes) - min(alone)
 
@@ -252,13 +260,34 @@ def shots():
             for form, given in forms:
                 name = "a shot of %d edges, %d detectors %s" % (decoder.num_edges, fired, form)
                 more = beside(name, lambda given=given: decoder.decode(given),
-                              call_of(decoder, shot))
+                              call_of(decoder, [shot]))
                 found.append((size, fired, form, 1e6 * more))
     usual = [more for *which, more in found if which == [BOUND_SIZE, 8, "as a set"]]
     bound("a shot of 8 detectors by the library takes %.1f us beside the call for C", usual[0],
           MOST_USUAL)
     bound("any shot of as large a code takes %.1f us",
           max(more for size, _, _, more in found if size <= BOUND_SIZE), MOST_BESIDE)
+
+
+def batches():
+    """Batches of shots by the library on these codes, with the bound of a row of an array."""
+    numpy, chance, found = installed("numpy"), random.Random(4), {}
+    for size in (7, 15, 22):
+        decoder = code(size, blossom.Library())
+        sets = [set(chance.sample(range(size * size), 8)) for _ in range(BATCH)]
+        rows = [[int(node in shot) for node in range(size * size)] for shot in sets]
+        forms = [("sets", sets), ("lists", rows)]
+        if numpy:
+            forms.append(("an array", numpy.array(rows, "uint8")))
+        for form, given in forms:
+            name = "each of %d shots of %d edges, 8 detectors, as %s" % (
+                BATCH, decoder.num_edges, form)
+            more = beside(name, lambda given=given: decoder.decode_batch(given),
+                          call_of(decoder, sets), SHOT_ROUNDS // BATCH + 1, BATCH)
+            found[size, form] = 1e6 * more
+    if numpy:
+        bound("a shot of a batch as an array takes %.1f us beside the call for C",
+              found[BOUND_SIZE, "an array"], MOST_BATCHED)
 
 
 def town():
@@ -282,7 +311,7 @@ def main():
     print("| Call | Whole | The program | Python |\n|---|---|---|---|")
     process = Timed(blossom.Process())
     large(process, process)
-    small(process, process, "as a process")
+    small(process, process, "as a process", process)
     try:
         blossom.library.find_library()
     except blossom.SolverError:
@@ -297,8 +326,9 @@ def main():
 def by_the_library():
     """The rows of the library."""
     shots()
+    batches()
     timed = large_by_the_library()
-    small(timed, blossom.Library(), "by the library")
+    small(timed, blossom.Library(), "by the library", timed_function("blossom_join_arrays"))
     graphs = [[("a", "b", weight), ("b", "c", 3)] for weight in range(10000)]
     row("each of 10,000 such graphs, `solve_many`", lambda:
         blossom.solve_many("match", graphs, engine="library"), Timed(None), len(graphs))

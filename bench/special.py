@@ -2,7 +2,7 @@
 """`solve` beside the special algorithms that people choose for single jobs (LEMON of Debian's
 liblemon-dev), as a table in Markdown: processor time of whole processes, the least of several runs
 in turn, and the ratio to the special algorithm. Shots of a decoder go through the library for C,
-one call for each, and their times are those within one process.
+all by one call and then one call for each, and their times are those within one process.
 
 Usage: special.py [--part WORD] [--runs N] [--check] [--before PROGRAM] [--library FILE]. A part is
 the jobs whose name has the word. It fails if two weights differ; for decompositions the sets have
@@ -136,8 +136,9 @@ def shot_rows(table, args):
         if done.returncode != 0:
             table.differ(name)
             continue
-        own, other = map(float, done.stdout.split())
+        own, single, other = map(float, done.stdout.split())
         table.row(name, (own, None), other, (most, None), "us")
+        table.row(name + ", a call for each", (single, None), other, (None, None), "us")
 
 
 def worst_rows(table, args):

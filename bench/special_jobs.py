@@ -226,13 +226,13 @@ JOBS = (
     ),
 )
 
-#: Shots through the library for C, one call for each: name, what makes the graph and its sets, and
+#: Shots through the library for C, all by one call: name, what makes the graph and its sets, and
 #: the wanted ratio.
 SHOTS = (
-    ("shot of a code of 421 edges, 1 % of errors", lambda: shots(15, 0.01, 40), 110 / 196),
-    ("shot of a code of 421 edges, 5 % of errors", lambda: shots(15, 0.05, 20), 160 / 1229),
-    ("shot of a code of 3,281 edges, 1 % of errors", lambda: shots(41, 0.01, 8), 450 / 10295),
-    ("shot of a code of 3,281 edges, 5 % of errors", lambda: shots(41, 0.05, 3), 1100 / 72399),
+    ("shot of a code of 421 edges, 1 % of errors", lambda: shots(15, 0.01, 200), 45 / 196),
+    ("shot of a code of 421 edges, 5 % of errors", lambda: shots(15, 0.05, 100), 125 / 1229),
+    ("shot of a code of 3,281 edges, 1 % of errors", lambda: shots(41, 0.01, 40), 450 / 10295),
+    ("shot of a code of 3,281 edges, 5 % of errors", lambda: shots(41, 0.05, 10), 1100 / 72399),
 )
 
 #: Joins where guessing an answer costs most before it is given up, or gains least.

@@ -21,8 +21,9 @@
  * standard input, by the same code. The answer is what the program prints, and the status is its
  * exit status. docs/FORMAT.md describes these texts.
  *
- * `capi/build.sh` builds libblossom.so and libblossom.a. `capi/example_arrays.c` and
- * `capi/example.c` are complete programs. docs/C.md has the same in more words.
+ * `capi/build.sh` builds libblossom.so and libblossom.a. `capi/example_arrays.c`,
+ * `capi/example_joins.c` and `capi/example.c` are complete programs. docs/C.md has the same in more
+ * words.
  *
  * Proved, for every input and every buffer:
  * - At a status from 0 to 8 the answer is at the front of the buffer, and the rest of the buffer is
@@ -38,7 +39,8 @@
  * - Over arrays: which arrays are refused, by the first fault; all others get the answer to exactly
  *   this instance.
  * - A buffer of BLOSSOM_SIZE_WITHOUT_PROOF(m) numbers is never too small for an answer without
- *   proof on m edges.
+ *   proof on m edges, nor one of BLOSSOM_JOINS_SIZE(k, m) for the joins of k terminal sets.
+ * - Each terminal set gets a minimum-weight T-join and its weight, or the reason why it has none.
  *
  * Tested: the shared library answers as the program does, byte for byte, and over arrays as over
  * texts; equal calls give equal answers; calls free the memory that they allocate.
@@ -63,7 +65,7 @@ extern "C" {
 #endif
 
 /** Version of these declarations. Under another version a call or a number means something else. */
-#define BLOSSOM_ABI 5
+#define BLOSSOM_ABI 6
 
 /**
  * Version that the library was built for. Compare it with BLOSSOM_ABI if you load the library at
@@ -161,15 +163,16 @@ uint32_t blossom_call(uint32_t task, uint32_t kind, const uint8_t *input, size_t
  * one by one (endpoints, weight, capacity), and vertices after them. 7 is unused.
  */
 enum blossom_input_error {
-    BLOSSOM_LENGTHS = 1,   /**< an array has the wrong length */
-    BLOSSOM_VERTICES = 2,  /**< more than 4,096 vertices */
-    BLOSSOM_EDGES = 3,     /**< more than 65,536 edges */
-    BLOSSOM_ENDPOINT = 4,  /**< an endpoint is 0 or greater than the number of vertices */
-    BLOSSOM_WEIGHT = 5,    /**< a weight exceeds 10^12 in absolute value */
-    BLOSSOM_CAPACITY = 6,  /**< a capacity is less than -1 or greater than 4,096 */
-    BLOSSOM_VALUE = 8,     /**< a degree exceeds 4,096, or a lower bound its upper bound */
-    BLOSSOM_NEGATIVE = 9,  /**< a weight is negative (postman, oddpath, evenpath) */
-    BLOSSOM_PATH_ENDS = 10 /**< other than two odd values (path, oddpath, evenpath) */
+    BLOSSOM_LENGTHS = 1,    /**< an array has the wrong length */
+    BLOSSOM_VERTICES = 2,   /**< more than 4,096 vertices */
+    BLOSSOM_EDGES = 3,      /**< more than 65,536 edges */
+    BLOSSOM_ENDPOINT = 4,   /**< an endpoint is 0 or greater than the number of vertices */
+    BLOSSOM_WEIGHT = 5,     /**< a weight exceeds 10^12 in absolute value */
+    BLOSSOM_CAPACITY = 6,   /**< a capacity is less than -1 or greater than 4,096 */
+    BLOSSOM_VALUE = 8,      /**< a degree exceeds 4,096, or a lower bound its upper bound */
+    BLOSSOM_NEGATIVE = 9,   /**< a weight is negative (postman, oddpath, evenpath) */
+    BLOSSOM_PATH_ENDS = 10, /**< other than two odd values (path, oddpath, evenpath) */
+    BLOSSOM_STARTS = 11     /**< starts of terminal sets: not from 0, falling, or a wrong end */
 };
 
 /** The first rule that an answer breaks. The names are those of docs/FORMAT.md. */
@@ -295,7 +298,61 @@ uint32_t blossom_check_arrays(uint32_t kind, uint32_t vertices, const uint32_t *
                               const uint32_t *values, size_t values_length, const int64_t *numbers,
                               size_t numbers_length, int64_t *output, size_t size, size_t *used);
 
+/** What a set of terminals T came to. A refused set leaves the other sets as they are. */
+enum blossom_join_outcome {
+    BLOSSOM_JOINED = 0,                /**< a minimum-weight T-join */
+    BLOSSOM_NO_JOIN = 1,               /**< a component has an odd number of terminals */
+    BLOSSOM_TERMINAL_OUT_OF_RANGE = 2, /**< a terminal is 0 or above the number of vertices */
+    BLOSSOM_TERMINAL_REPEATED = 3,     /**< a terminal occurs earlier in the set */
+    BLOSSOM_JOIN_TOO_LARGE = 4         /**< the certificate graph for this set is too large */
+};
+
+/**
+ * Finds a minimum-weight T-join for each of k sets T of terminals in one graph. One call for all
+ * sets takes less time than a call of `blossom_solve_arrays` for each.
+ *
+ * Set j, from 0, has the terminals from `terminals[starts[j]]` to before `terminals[starts[j + 1]]`
+ * in any order. At BLOSSOM_OK `output` has these numbers:
+ *
+ *     index     numbers  content
+ *     0         k        the outcome of each set, an `enum blossom_join_outcome`
+ *     k         k        its detail: the weight of the join; at BLOSSOM_TERMINAL_OUT_OF_RANGE and
+ *                        BLOSSOM_TERMINAL_REPEATED the index within the set, from 0, of the first
+ *                        wrong terminal; else 0
+ *     2k        k + 1    the edges of join j are those from start j to before start j + 1
+ *     3k + 1             the edges of all joins, from 1, ascending within each join
+ *
+ * At BLOSSOM_MALFORMED `output` has two numbers: an `enum blossom_input_error`, and the index of
+ * the edge, or 0; at BLOSSOM_STARTS it is the index in `starts`, from 0, of the first wrong item.
+ * At the other statuses, BLOSSOM_OUT_OF_MEMORY and BLOSSOM_BUFFER_TOO_SMALL, it is unchanged.
+ * BLOSSOM_JOINS_SIZE(k, m) numbers suffice for m edges.
+ *
+ * The requirements of `blossom_call` hold for each pointer and each length. `from` to `terminals`
+ * may overlap each other; `output` and `used` overlap nothing.
+ *
+ * @param      vertices   number of vertices
+ * @param      from       one endpoint of each edge
+ * @param      to         the other endpoint; equal to the first for a loop
+ * @param      weights    one for each edge; with length 0 each edge weighs 1
+ * @param      starts     k + 1 indices of `terminals`: the first is 0, none is less than the one
+ *                        before it, and the last is `terminals_length`
+ * @param      terminals  vertices from 1, those of the first set first
+ * @param[out] output     the numbers of the answer
+ * @param      size       numbers that fit at `output`
+ * @param[out] used       length of the answer in numbers, also if it does not fit
+ * @return an `enum blossom_status`
+ */
+uint32_t blossom_join_arrays(uint32_t vertices, const uint32_t *from, size_t from_length,
+                             const uint32_t *to, size_t to_length, const int64_t *weights,
+                             size_t weights_length, const uint32_t *starts, size_t starts_length,
+                             const uint32_t *terminals, size_t terminals_length, int64_t *output,
+                             size_t size, size_t *used);
+
 /* ---- structs over these calls, as inline functions */
+
+/** Numbers that suffice for the joins of so many terminal sets in a graph of so many edges. */
+#define BLOSSOM_JOINS_SIZE(sets, edges)                                                            \
+    (2 + BLOSSOM_CAST_(size_t, sets) * (3 + BLOSSOM_CAST_(size_t, edges)))
 
 /**
  * Numbers that suffice for an answer without proof on so many edges. With its proof an answer has
@@ -496,6 +553,76 @@ static inline uint32_t blossom_check(const struct blossom_instance *instance,
     return status;
 }
 
+/** Sets of terminals; the caller owns their arrays. See `blossom_join_arrays`. */
+struct blossom_terminal_sets {
+    size_t sets;               /**< number of sets */
+    const uint32_t *starts;    /**< set j: terminals[starts[j]] to before starts[j + 1] */
+    const uint32_t *terminals; /**< vertices from 1; starts[sets] of them */
+};
+
+/**
+ * The joins of such sets. The caller sets `numbers` and `size`; `blossom_joins` sets the rest. Its
+ * pointers point into `numbers`. At every status but BLOSSOM_OK, the fields from `sets` to `edges`
+ * are 0 or NULL.
+ */
+struct blossom_joins_answer {
+    int64_t *numbers;        /**< the caller's buffer */
+    size_t size;             /**< numbers that fit in the buffer: see BLOSSOM_JOINS_SIZE */
+    size_t length;           /**< numbers of the answer, also if they do not fit */
+    size_t sets;             /**< number of sets */
+    const int64_t *outcomes; /**< of each set, an `enum blossom_join_outcome` */
+    const int64_t *details;  /**< weight of each join, or index of the wrong terminal in its set */
+    const int64_t *starts;   /**< join j: edges[starts[j]] to before edges[starts[j + 1]] */
+    const int64_t *edges;    /**< edges from 1, ascending within each join */
+    uint32_t rule;           /**< an `enum blossom_input_error` at BLOSSOM_MALFORMED, else 0 */
+    uint32_t index;          /**< where the arrays break the rule: see `blossom_join_arrays` */
+};
+
+/** Sets what `blossom_joins` sets, from the numbers and the status of a call for so many sets. */
+static inline void blossom_point_joins_(struct blossom_joins_answer *answer, size_t sets,
+                                        uint32_t status) {
+    const int64_t *at = answer->numbers;
+    const int is_done = status == BLOSSOM_OK, is_malformed = status == BLOSSOM_MALFORMED;
+    answer->sets = is_done ? sets : 0;
+    answer->outcomes = is_done ? at : BLOSSOM_NULL_;
+    answer->details = is_done ? at + sets : BLOSSOM_NULL_;
+    answer->starts = is_done ? at + 2 * sets : BLOSSOM_NULL_;
+    answer->edges = is_done ? at + 3 * sets + 1 : BLOSSOM_NULL_;
+    answer->rule = is_malformed ? BLOSSOM_CAST_(uint32_t, at[0]) : 0;
+    answer->index = is_malformed ? BLOSSOM_CAST_(uint32_t, at[1]) : 0;
+}
+
+/**
+ * Finds a minimum-weight T-join of `graph` for each set: `blossom_join_arrays` over these structs.
+ *
+ * The kind of `graph` is BLOSSOM_TJOIN, and its values are NULL: each set has its own terminals.
+ * Capacities are irrelevant. `numbers` may be NULL if `size` is 0: then `length` becomes the length
+ * of the answer.
+ *
+ * @return an `enum blossom_status`; BLOSSOM_INVALID_ARGUMENT for another kind, or with values
+ */
+static inline uint32_t blossom_joins(const struct blossom_instance *graph,
+                                     const struct blossom_terminal_sets *sets,
+                                     struct blossom_joins_answer *answer) {
+    const size_t edges = graph->edges;
+    const int has_terminals = sets->starts && sets->terminals;
+    int64_t nothing = 0;
+    uint32_t status = BLOSSOM_INVALID_ARGUMENT;
+    answer->length = 0;
+    if (graph->kind == BLOSSOM_TJOIN && !graph->values) {
+        status = blossom_join_arrays(
+            graph->vertices, blossom_counts_(graph->from), graph->from ? edges : 0,
+            blossom_counts_(graph->to), graph->to ? edges : 0, blossom_weights_(graph->weights),
+            graph->weights ? edges : 0, blossom_counts_(sets->starts),
+            sets->starts ? sets->sets + 1 : 0, blossom_counts_(sets->terminals),
+            has_terminals ? sets->starts[sets->sets] : 0,
+            answer->numbers ? answer->numbers : &nothing, answer->numbers ? answer->size : 0,
+            &answer->length);
+    }
+    blossom_point_joins_(answer, sets->sets, status);
+    return status;
+}
+
 /** What an `enum blossom_input_error` says, in words; "unknown rule" for other numbers. */
 static inline const char *blossom_input_error_text_(uint32_t rule) {
     switch (rule) {
@@ -508,6 +635,7 @@ static inline const char *blossom_input_error_text_(uint32_t rule) {
     case BLOSSOM_VALUE: return "a degree exceeds 4096, or a lower bound exceeds its upper bound";
     case BLOSSOM_NEGATIVE: return "a weight is negative";
     case BLOSSOM_PATH_ENDS: return "the number of vertices with odd values is other than two";
+    case BLOSSOM_STARTS: return "the starts of terminal sets do not ascend from 0 to the end";
     default: return "unknown rule";
     }
 }
@@ -549,7 +677,7 @@ static inline const char *blossom_rule_text(uint32_t status, uint32_t rule) {
     case BLOSSOM_TOO_LONG: return "the text is too long";
     case BLOSSOM_OUT_OF_MEMORY: return "out of memory";
     case BLOSSOM_BUFFER_TOO_SMALL: return "the buffer is too small for the answer";
-    case BLOSSOM_INVALID_ARGUMENT: return "unknown task or kind, or an answer that is not there";
+    case BLOSSOM_INVALID_ARGUMENT: return "unknown or unsuitable task or kind, or no answer";
     default: return "unknown status";
     }
 }

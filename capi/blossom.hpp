@@ -77,7 +77,10 @@ struct Instance {
     View<std::uint32_t> values = {};
 };
 
-/** The arrays break a rule of instances: which, and at which edge or vertex, from 1, or 0. */
+/**
+ * The arrays break a rule of instances: which, and at which edge or vertex, from 1, or 0; or for
+ * BLOSSOM_STARTS at which start, from 0.
+ */
 struct Malformed : std::invalid_argument {
     Malformed(blossom_input_error broken, std::uint32_t at)
         : std::invalid_argument("blossom: malformed arrays: " + said(broken) +
@@ -192,6 +195,70 @@ private:
     std::vector<std::int64_t> numbers_;
 };
 
+/**
+ * Sets of terminals, whose arrays belong to the caller: set j, from 0, has the terminals from
+ * starts[j] to before starts[j + 1]. So there is one more start than there are sets.
+ */
+struct TerminalSets {
+    View<std::uint32_t> starts, terminals;
+    std::size_t sets() const { return starts.empty() ? 0 : starts.size() - 1; }
+};
+
+/**
+ * What each set of terminals, from 0, came to. Its views are those of its own numbers, so a
+ * temporary one has none.
+ */
+class Joins {
+public:
+    /** @throws std::invalid_argument if the numbers do not have the layout of so many joins */
+    Joins(std::size_t sets, std::vector<std::int64_t> numbers)
+        : sets_(sets), numbers_(std::move(numbers)) {
+        if (!has_layout()) {
+            throw std::invalid_argument("blossom: these " + std::to_string(numbers_.size()) +
+                                        " numbers do not have the layout of joins");
+        }
+    }
+    std::size_t sets() const { return sets_; }
+    View<std::int64_t> numbers() const & { return {numbers_.data(), numbers_.size()}; }
+    blossom_join_outcome outcome(std::size_t set) const {
+        return static_cast<blossom_join_outcome>(numbers_[set]);
+    }
+    bool is_joined(std::size_t set) const { return outcome(set) == BLOSSOM_JOINED; }
+    /** The weight of a join; 0 for a set without one. */
+    std::int64_t weight(std::size_t set) const { return is_joined(set) ? detail(set) : 0; }
+    /** The index within the set, from 0, of its first wrong terminal; 0 if there is none. */
+    std::size_t index(std::size_t set) const {
+        return is_joined(set) ? 0 : static_cast<std::size_t>(detail(set));
+    }
+    /** The edges of a join, from 1, ascending. */
+    View<std::int64_t> edges(std::size_t set) const & {
+        return {numbers_.data() + 3 * sets_ + 1 + start(set), start(set + 1) - start(set)};
+    }
+
+    View<std::int64_t> numbers() const && = delete;
+    View<std::int64_t> edges(std::size_t) const && = delete;
+
+private:
+    std::int64_t detail(std::size_t set) const { return numbers_[sets_ + set]; }
+    std::size_t start(std::size_t set) const {
+        return static_cast<std::size_t>(numbers_[2 * sets_ + set]);
+    }
+    /** Whether the starts ascend from 0 to the number of edges. */
+    bool has_layout() const {
+        const std::size_t size = numbers_.size();
+        if (size == 0 || sets_ > (size - 1) / 3 || start(0) != 0) {
+            return false;
+        }
+        bool ascend = true;
+        for (std::size_t set = 0; set < sets_; ++set) {
+            ascend = ascend && start(set) <= start(set + 1);
+        }
+        return ascend && start(sets_) == size - 3 * sets_ - 1;
+    }
+    std::size_t sets_;
+    std::vector<std::int64_t> numbers_;
+};
+
 namespace detail {
 /** A pointer that is not null, as the calls require. */
 template <class T> const T *at(View<T> numbers) {
@@ -255,6 +322,34 @@ inline void check(const Instance &given, const Answer &answer) {
         given.capacities.size(), at(given.values), given.values.size(), at(answer.numbers()),
         answer.numbers().size(), told, 2, &used);
     detail::refuse(status, told);
+}
+
+/**
+ * Finds a minimum-weight T-join for each set of terminals in one graph: an instance of
+ * BLOSSOM_TJOIN without values. A set that is refused leaves the others as they are.
+ *
+ * @throws Malformed, std::bad_alloc, and std::invalid_argument for another kind, or with values
+ */
+inline Joins joins(const Instance &graph, const TerminalSets &given) {
+    using detail::at;
+    if (graph.kind != BLOSSOM_TJOIN || !graph.values.empty()) {
+        throw std::invalid_argument("blossom: joins take a graph of kind tjoin without values");
+    }
+    const std::size_t most = BLOSSOM_JOINS_SIZE(given.sets(), graph.from.size());
+    // (a guess, if that is less: joins with more edges are found twice)
+    const std::size_t few = 3 * given.sets() + 64 * given.terminals.size() + (1 << 18);
+    std::vector<std::int64_t> numbers(most < few ? most : few);
+    std::uint32_t status = BLOSSOM_BUFFER_TOO_SMALL;
+    while (status == BLOSSOM_BUFFER_TOO_SMALL) {
+        std::size_t used = 0;
+        status = blossom_join_arrays(
+            graph.vertices, at(graph.from), graph.from.size(), at(graph.to), graph.to.size(),
+            at(graph.weights), graph.weights.size(), at(given.starts), given.starts.size(),
+            at(given.terminals), given.terminals.size(), numbers.data(), numbers.size(), &used);
+        numbers.resize(used);
+    }
+    detail::refuse(status, numbers.data());
+    return Joins(given.sets(), std::move(numbers));
 }
 
 } // namespace blossom

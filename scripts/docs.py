@@ -37,6 +37,8 @@ PARTS = {
         "old names": header_page.old_names_part,
         "layout": header_page.layout_part,
         "input errors": header_page.input_errors_part,
+        "join layout": header_page.join_layout_part,
+        "join outcomes": header_page.join_outcomes_part,
         "tasks": header_page.tasks_part,
         "kinds": header_page.kinds_part,
     },

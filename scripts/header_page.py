@@ -36,6 +36,10 @@ def input_errors_part():
     return list(numbered("blossom_input_error"))
 
 
+def join_outcomes_part():
+    return list(numbered("blossom_join_outcome"))
+
+
 def old_names_part():
     """The names of 1.0.0: those of enums, and of a constant."""
     old = [entry for enum in ("blossom_status", "blossom_task") for entry in entries(enum)]
@@ -46,7 +50,17 @@ def old_names_part():
     return ["| In 1.0.0 | Now |", "|---|---|"] + ["| `%s` | `%s` |" % pair for pair in pairs]
 
 
-def layout_part():
-    """The table of the numbers of an answer, as the header draws it."""
-    table = re.search(r"\n((?: \*     .*\n| \*\n)+) \*\n \* Without proof p", read(HEADER))
+def table_before(words):
+    """A table of numbers, as the header draws it before these words."""
+    table = re.search(r"\n((?: \*     .*\n| \*\n)+) \*\n \* %s" % words, read(HEADER))
     return [line[3:].rstrip() for line in table[1].strip("\n").split("\n")]
+
+
+def layout_part():
+    """The table of the numbers of an answer."""
+    return table_before("Without proof p")
+
+
+def join_layout_part():
+    """The table of the numbers of the joins of sets."""
+    return table_before("At BLOSSOM_MALFORMED `output`")

@@ -110,12 +110,15 @@ OF_C = {
     "refused.c": ["c_structs.buffers_without_an_answer"],
     "answers.cpp": ["c_structs.c_plus_plus"],
     "temporaries.cpp": ["c_structs.temporaries"],
+    "joins.c": ["c_joins.structs"],
+    "joins.cpp": ["c_joins.c_plus_plus"],
+    "example_joins.c": ["c_joins.example", "c_compilers.failing_examples"],
     "example_arrays.c": ["c_structs.example", "c_compilers.failing_examples"],
     "example.c": ["c_compilers.example", "c_compilers.failing_examples"],
-    "blossom.hpp": ["c_structs.c_plus_plus", "c_structs.temporaries"],
+    "blossom.hpp": ["c_structs.c_plus_plus", "c_structs.temporaries", "c_joins.c_plus_plus"],
 }
 OF_HEADER = (
-    "c_compilers.numbers_and_types c_compilers.header_in_c_plus_plus c_arrays.faults"
+    "c_compilers.numbers_and_types c_compilers.header_in_c_plus_plus c_arrays.faults c_joins.faults"
     " c_edge.statuses c_edge.no_such_call c_edge.python_numbers c_edge.longest_answer"
     " c_edge.version"
 ).split()

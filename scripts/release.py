@@ -45,6 +45,7 @@ PLAIN = ("plain_checker.py", "plain_instances.py")
 EXAMPLES = (
     "capi/example.c",
     "capi/example_arrays.c",
+    "capi/example_joins.c",
     "examples/two-triangles.dimacs",
     "examples/perfect-two-triangles.checked",
     "examples/streets.csv",
@@ -297,7 +298,7 @@ def wheel(folder, notes):
 
 def header():
     """The header, with the number of the release."""
-    text, line = text_of("capi/blossom.h"), "#define BLOSSOM_ABI 5\n"
+    text, line = text_of("capi/blossom.h"), "#define BLOSSOM_ABI 6\n"
     if text.count(line) != 1:
         raise Refused(
             "capi/blossom.h hasn't the one line %r, below which the number of the release stands"

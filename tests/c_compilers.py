@@ -107,6 +107,9 @@ def failing_examples(program, library, tests):
         ("example.c", abi, 0, no_memory, b"out of memory\n"),
         ("example_arrays.c", abi, 0, no_memory, b"status 8, index 0: out of memory\n"),
         ("example_arrays.c", abi, 0, [], b"status 0, index 0: success\n"),
+        ("example_joins.c", abi + 1, out_of_memory, [], other % (abi + 1, abi)),
+        ("example_joins.c", abi, out_of_memory, [], b"status 8, index 0: out of memory\n"),
+        ("example_joins.c", abi, 0, no_memory, b"status 8, index 0: out of memory\n"),
     ):
         told = ["-DVERSION=%d" % version, "-DSTATUS=%d" % status, "-I" + CAPI, *more]
         sources = [os.path.join(CAPI, name), os.path.join(SOURCES, "stand_in.c")]
@@ -135,6 +138,7 @@ def numbers_and_types(program, library, tests):
         **header.outcomes,
         **header.violations,
         **header.parts,
+        **header.join_outcomes,
     }
     tests.compare(
         "the names of 1.0.0", b"", {*OLD_NAMES, "LONGEST_ANSWER"}, set(header.aliases)

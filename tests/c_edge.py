@@ -211,6 +211,7 @@ def no_such_call(program, library, tests):
 def python_numbers(program, library, tests):
     """The numbers that the Python package calls by are the header's."""
     sys.path.insert(0, os.path.join(TOP, "python"))
+    from blossom import array_library
     from blossom import library as python
 
     sys.path.pop(0)
@@ -236,6 +237,12 @@ def python_numbers(program, library, tests):
         b"",
         (header.abi, header.statuses["BUFFER_TOO_SMALL"], header.statuses["INVALID_ARGUMENT"]),
         (python.ABI, python.BUFFER_TOO_SMALL, python.INVALID_ARGUMENT),
+    )
+    tests.compare(
+        "the rules and outcomes of blossom.h in Python",
+        b"",
+        ({*header.input_errors.values()}, header.join_outcomes["JOINED"]),
+        ({*array_library.RULES}, array_library.JOINED),
     )
 
 

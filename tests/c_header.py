@@ -30,6 +30,7 @@ class Header:
         self.tasks, self.kinds, self.statuses = enums["task"], enums["kind"], enums["status"]
         self.input_errors, self.outcomes = enums["input_error"], enums["outcome"]
         self.violations, self.parts = enums["violation"], enums["answer_part"]
+        self.join_outcomes = enums["join_outcome"]
         #: Second names of numbers, each with the first one, without BLOSSOM_.
         self.aliases = dict(re.findall(r"BLOSSOM_(\w+) = BLOSSOM_(\w+)", text))
         self.aliases["LONGEST_ANSWER"] = re.search(

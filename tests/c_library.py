@@ -11,6 +11,7 @@ import random
 import c_arrays
 import c_compilers
 import c_edge
+import c_joins
 import c_many_runs
 import c_structs
 import tables
@@ -187,7 +188,7 @@ def check(program, tests):
     """Adds these tests to `tests`. Prints the parts that were skipped, with the reason."""
     passed, failed, skipped = tests.passed, tests.failed, tests.skipped
     library = Library() if is_built() else None
-    others = c_edge, c_arrays, c_structs, c_compilers, c_many_runs
+    others = c_edge, c_arrays, c_joins, c_structs, c_compilers, c_many_runs
     for part in sum((one.PARTS for one in others), PARTS):
         try:
             if library is None:

@@ -15,16 +15,20 @@ from .kinds import WALKED
 
 #: The rules that arrays can break, by their numbers; none has the number 7.
 RULES = {1: "Lengths", 2: "Vertices", 3: "Edges", 4: "Endpoint", 5: "Weight", 6: "Capacity",
-         8: "Value", 9: "Negative", 10: "PathEnds"}
+         8: "Value", 9: "Negative", 10: "PathEnds", 11: "Starts"}
 #: The rules that a document can break, by their numbers from 1.
 DOCUMENT_RULES = ("DocForm", "KindDiffers", "DocRange", "NotFeasible", "WeightDiffers",
                   "DualMissing", "SetForm", "Slack", "ValueDiffers", "NotBarrier", "NotClosed",
                   "NotCircuit", "PathForm", "PathMissing")
 
 DONE, REJECTED, MALFORMED, TOO_LARGE = 0, 1, 3, 4
+#: The outcome of a set of terminals that has a join.
+JOINED = 0
 #: The types of the parameters that say what the instance is, from the kind on.
 INSTANCE_TYPES: List[Any] = ([ctypes.c_uint32, ctypes.c_uint32]
                              + 5 * [ctypes.c_void_p, ctypes.c_size_t])
+#: The types of the parameters of a call for joins, up to the terminals.
+JOIN_TYPES: List[Any] = [ctypes.c_uint32] + 5 * [ctypes.c_void_p, ctypes.c_size_t]
 DOCUMENT_TYPES: List[Any] = [ctypes.c_void_p, ctypes.c_size_t]
 ANSWER_TYPES: List[Any] = [ctypes.c_void_p, ctypes.c_size_t, ctypes.POINTER(ctypes.c_size_t)]
 
@@ -45,6 +49,11 @@ class _Asked(Protocol):
 def most_of_brief(edges: int) -> int:
     """How many numbers a brief answer has at most, on an instance of so many edges."""
     return HEAD + 1 + 2 * edges
+
+
+def most_of_joins(sets: int, edges: int) -> int:
+    """How many numbers the joins of so many sets have at most, in a graph of so many edges."""
+    return 2 + sets * (3 + edges)
 
 
 def refusal(status: int, found: Sequence[int]) -> bytes:

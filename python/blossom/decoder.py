@@ -12,8 +12,9 @@ the same order, and `from_edges`. What is different:
 - `from_check_matrix` has a virtual boundary and one round of measurements. There is no `add_noise`.
 - A component of the graph has at most some 7,700 edges. Larger graphs are solved by components.
 
-A shot takes a tenth of a millisecond to some milliseconds. The decoder is for judging decoders and
-for small codes.
+`decode_batch` has the library find the joins of many shots by each call, and shots in an array of
+numpy stay in arrays up to their predictions. A shot takes some 50 microseconds to a few
+milliseconds. The decoder is for judging decoders and for small codes.
 
     import blossom
 
@@ -44,10 +45,11 @@ from typing import (AbstractSet, Any, Dict, FrozenSet, Iterable, List, Literal, 
 from . import documents
 from .answers import Answer, answer_of
 from .arguments import refuse_timeout, refuse_unless
-from .batch import SMALL, Run, mapped, runs
+from .batch import SMALL, Run, runs
 from .certificates import Number
 from .decoder_input import (BOUNDARY, either_weight, fault_ids_in, fired_in, flags_like, for_each,
                             is_boundary, like, node_in, rows_of, weight_of_probability)
+from .decoding_batch import decoded, entries_in, errors_of, has_calls, of_shot
 from .decoding_plan import Part, Plan, plan_of
 from .deprecated import old_keywords
 from .detector_error_model import edges_in, read_model
@@ -556,7 +558,7 @@ class Decoder:
         Raises
         ------
         Infeasible, ArgumentError, LimitExceeded, TimeLimit, SolverError
-            See `decode`.
+            See `decode`. The message begins with the index of the shot: "shot 3: ..".
 
         Examples
         --------
@@ -564,16 +566,23 @@ class Decoder:
         >>> decoder.decode_batch([[0, 0], [1, 0], [1, 1]])
         [[0, 0, 0], [1, 0, 0], [0, 1, 0]]
         """
+        plan = self._planned()
         if bit_packed_shots:
-            shots = unpacked(shots, self._planned().lengths[1])
-        joins, plan = self._errors_of_all(shots, executor), self._planned()
-        predictions = like(shots, [list(plan.flipped(errors, self._faults)) for errors in joins],
-                           "uint8", (len(joins), self._faults))
+            shots = unpacked(shots, plan.lengths[1])
+        entries = entries_in(shots, plan) if executor is None and has_calls(plan) else None
+        if entries is None:
+            joins = self._errors_of_all(shots, executor)
+            flipped = [list(plan.flipped(errors, self._faults)) for errors in joins]
+            predictions = like(shots, flipped, "uint8", (len(joins), self._faults))
+            weights = None
+            if return_weights:
+                weights = like(shots, list(map(plan.weight, joins)), "float64")
+        else:
+            predictions, weights = decoded(plan, entries, self._faults, self._in_full,
+                                           len(self._edges) > SMALL)
         if bit_packed_predictions:
             predictions = packed(predictions)
-        if not return_weights:
-            return predictions
-        return predictions, like(shots, [plan.weight(errors) for errors in joins], "float64")
+        return (predictions, weights) if return_weights else predictions
 
     def decode_shots_bit_packed(self, *, bit_packed_detection_event_data: Any) -> Any:
         """Decode packed shots into packed predictions, as a compiled decoder of sinter does.
@@ -733,6 +742,17 @@ class Decoder:
         fired = fired_in(syndrome, plan.detectors, plan.lengths)
         return self._fired_in_any(syndrome, plan) if fired is None else fired
 
+    def _fired_in_all(self, shots: Sequence[Syndrome]) -> List[AbstractSet[int]]:
+        """The same of each of these syndromes."""
+        fired: List[AbstractSet[int]] = []
+        try:
+            for shot in shots:
+                fired.append(self._fired(shot))
+        except (BlossomError, TypeError):
+            with of_shot(len(fired)):
+                raise
+        return fired
+
     def _fired_in_any(self, syndrome: Syndrome, plan: Plan) -> AbstractSet[int]:
         """The same for a syndrome in any form."""
         if isinstance(syndrome, (str, bytes)) or not hasattr(syndrome, "__iter__"):
@@ -761,7 +781,7 @@ class Decoder:
             return self._errors_in(plan.parts[0], fired)
         errors: List[int] = []
         for part, nodes in plan.split(fired):
-            errors += self._errors_in(part, nodes)
+            errors += self._errors_in(plan.parts[part], nodes)
         return errors
 
     def _errors_in(self, part: Part, fired: AbstractSet[int]) -> List[int]:
@@ -780,16 +800,18 @@ class Decoder:
         if any(isinstance(shot, numbers.Integral) for shot in shots):
             raise TypeError("shots must be a sequence of syndromes, got one syndrome: pass"
                             " [syndrome]")
-        fired, plan = [self._fired(shot) for shot in shots], self._planned()
-        if executor is None and all(part.calls is not None for part in plan.parts):
-            return mapped(self._errors, fired, len(self._edges) > SMALL)
+        fired, plan = self._fired_in_all(shots), self._planned()
+        if executor is None and has_calls(plan):
+            return errors_of(plan, fired, self._in_full, len(self._edges) > SMALL)
         joins: List[List[int]] = [[] for _ in fired]
-        asked = [(number, *one) for number, shot in enumerate(fired) for one in plan.split(shot)]
+        asked = [(number, plan.parts[part], nodes) for number, shot in enumerate(fired)
+                 for part, nodes in plan.split(shot)]
         texts = [part.shot(nodes) for _, part, nodes in asked]
         with contextlib.closing(runs(self._by, "brief", texts, self._timeout, executor)) as ended:
             for place, run in ended:
                 number, part, nodes = asked[place]
-                joins[number] += self._read(part, nodes, run)
+                with of_shot(number):
+                    joins[number] += self._read(part, nodes, run)
         return joins
 
     def _read(self, part: Part, fired: AbstractSet[int], run: Run) -> List[int]:

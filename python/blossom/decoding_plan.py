@@ -95,15 +95,16 @@ class Plan:
         """The numbers of the parts that are solved for each syndrome."""
         return [number for number, part in enumerate(self.parts) if part.restless]
 
-    def split(self, fired: AbstractSet[int]) -> List[Tuple[Part, AbstractSet[int]]]:
-        """The parts to solve if these detectors fired, each with the nodes of it that did."""
+    def split(self, fired: AbstractSet[int]) -> List[Tuple[int, AbstractSet[int]]]:
+        """The numbers of the parts to solve if these detectors fired, each with the nodes of it
+        that did."""
         if len(self.parts) == 1:
-            return [(self.parts[0], fired)]
+            return [(0, fired)]
         own: Dict[int, Set[int]] = {number: set() for number in self.restless}
         for detector in fired:
             number, rank = self.place[detector]
             own.setdefault(number, set()).add(rank)
-        return [(self.parts[number], nodes) for number, nodes in sorted(own.items())]
+        return sorted(own.items())
 
     def used(self, errors: Sequence[int]) -> List[int]:
         """The decoder's edges that are used, in their order: these, and those that always are."""
@@ -121,6 +122,13 @@ class Plan:
         """What these errors weigh, in the units that were given."""
         weight = sum(map(self.weights.__getitem__, errors), self.always[0])
         return weight if self.scale == 1 else plain(weight / self.scale)
+
+    @cached_property
+    def flip_columns(self) -> List[array[int]]:
+        """For each of the decoder's edges its first observable, its second, and so on: as many
+        columns as one edge has observables. -1: it has fewer."""
+        return [array("q", [(*flips, -1)[min(turn, len(flips))] for flips in self.flips])
+                for turn in range(max(map(len, self.flips), default=0))]
 
     def refuse_too_large(self) -> None:
         """Refuses a plan of which a part is too large for every syndrome.
@@ -196,7 +204,7 @@ class Maker:
                                    terminals=())
         base = dataclasses.replace(base, scale=self.scale)
         by = chosen(self.by, len(graph.ends), self.timeout)
-        calls = _prepared(by, "tjoin", base._numbers, self.timeout)
+        calls = _prepared(by, base._numbers, self.timeout)
         return Part(nodes, graph, base, errors, calls, min(weights, default=0) < 0)
 
     def parts(self) -> List[Part]:

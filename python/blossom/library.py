@@ -10,20 +10,20 @@ import mmap
 import os
 import threading
 from dataclasses import dataclass
-from typing import Dict, Iterator, Optional, Tuple, Union
+from typing import Any, Dict, Iterator, Optional, Tuple, Union
 
 from .array_documents import ArrayDocument, copied
-from .array_library import (ANSWER_TYPES, DOCUMENT_TYPES, DONE, INSTANCE_TYPES, _Asked,
-                            numbers_of_document, refusal, verdict_line)
+from .array_library import (ANSWER_TYPES, DOCUMENT_TYPES, DONE, INSTANCE_TYPES, JOIN_TYPES, _Asked,
+                            most_of_joins, numbers_of_document, refusal, verdict_line)
 from .buffers import Numbers, address, parameters
 from .checkout import checkout, is_present, released, unpacked
 from .documents import Document
 from .errors import ArgumentError, SolverError
 from .kinds import KINDS
-from .prepared import PreparedCall
+from .prepared import Joins, PreparedCall, graph_words, joins_in
 
 #: What capi/blossom.h calls BLOSSOM_ABI: the version of the call that is declared here.
-ABI = 5
+ABI = 6
 TASKS = {"solve": 1, "brief": 2, "check": 3}
 KIND_NUMBERS: Dict[str, int] = {kind: number for number, kind in enumerate(KINDS, 1)}
 BUFFER_TOO_SMALL = 9
@@ -70,6 +70,7 @@ def loaded(path: str) -> ctypes.CDLL:
         version = library.blossom_abi()
         if version == ABI:
             library.blossom_solve_arrays, library.blossom_check_arrays
+            library.blossom_join_arrays
     except (OSError, AttributeError) as error:
         raise SolverError("the library %s can't be used: %s" % (path, error)) from None
     if version != ABI:
@@ -79,8 +80,10 @@ def loaded(path: str) -> ctypes.CDLL:
                                      ctypes.c_size_t, ctypes.c_void_p, ctypes.c_size_t,
                                      ctypes.POINTER(ctypes.c_size_t)]
     solve, check = library.blossom_solve_arrays, library.blossom_check_arrays
-    solve.restype = check.restype = ctypes.c_uint32
+    join = library.blossom_join_arrays
+    solve.restype = check.restype = join.restype = ctypes.c_uint32
     solve.argtypes = [ctypes.c_uint32, *INSTANCE_TYPES, *ANSWER_TYPES]
+    join.argtypes = [*JOIN_TYPES, *ANSWER_TYPES]
     check.argtypes = [*INSTANCE_TYPES, *DOCUMENT_TYPES, *ANSWER_TYPES]
     return library
 
@@ -132,6 +135,11 @@ class Buffers(threading.local):
 
 
 buffers = Buffers()
+
+
+def most_sets(edges: int) -> int:
+    """How many sets of terminals in a graph of so many edges have their joins in one buffer."""
+    return (BUFFER // 8 - most_of_joins(0, edges)) // (3 + edges)
 
 
 @dataclass(frozen=True)
@@ -222,12 +230,23 @@ class Library:
                 return status, refusal(status, numbers)
             return status, ArrayDocument(asked.kind, copied(numbers), task == "brief")
 
-    def _prepared(self, kind: str, numbers: Numbers) -> PreparedCall:
-        """What makes one brief call after the other on this instance, with other values of its
-        vertices each time. SolverError: see `run`."""
+    def _prepared(self, numbers: Numbers) -> PreparedCall:
+        """What finds the join of one set of terminals after the other in this graph. SolverError:
+        see `run`."""
         library = found(self.path, os.environ.get("BLOSSOM_LIBRARY"))
-        return PreparedCall(library.blossom_solve_arrays, TASKS["brief"], KIND_NUMBERS[kind],
-                            numbers)
+        return PreparedCall(library.blossom_join_arrays, numbers)
+
+    def _joins(self, numbers: Numbers, starts: Any, terminals: Any) -> Optional[Joins]:
+        """The joins of sets of terminals, at most `most_sets` of them. None: there was no answer,
+        as for lack of memory. SolverError: see `run`."""
+        library = found(self.path, os.environ.get("BLOSSOM_LIBRARY"))
+        with buffers.lent("tjoin") as own:
+            status: int = library.blossom_join_arrays(
+                *graph_words(numbers), *address(starts), *address(terminals), own.address,
+                len(own.numbers), own.used_at)
+            if status != DONE:
+                return None
+            return joins_in(own.numbers[:own.used.value], len(starts) - 1)
 
     def judge(self, asked: _Asked, document: Document,
               timeout: Optional[float] = None) -> Tuple[int, bytes]:

@@ -92,13 +92,13 @@ def solved(by: Runner, task: str, asked: _Asked, timeout: Optional[float] = None
     return by.run(task, asked.kind, asked.text, timeout, running)
 
 
-def _prepared(by: Runner, kind: str, numbers: Numbers,
-             timeout: Optional[float]) -> Optional[PreparedCalls]:
-    """Calls on this instance with other values each time, where `by` makes them (`Library`) and
-    none is to be stopped."""
-    if timeout is not None or not hasattr(by, "_prepared"):
+def _prepared(by: Runner, numbers: Numbers, timeout: Optional[float]) -> Optional[PreparedCalls]:
+    """Calls for joins in this graph, where `by` makes them (`Library`) and none is to be
+    stopped."""
+    if timeout is not None or not (hasattr(by, "_prepared") and hasattr(by, "_joins")):
         return None
-    return PreparedCalls(functools.partial(by._prepared, kind, numbers))
+    return PreparedCalls(functools.partial(by._prepared, numbers),
+                         functools.partial(by._joins, numbers))
 
 
 def runner(engine: Engine = "auto", program: Optional[str] = None) -> Runner:

@@ -33,6 +33,18 @@ uint32_t blossom_solve_arrays(uint32_t task, uint32_t kind, uint32_t vertices, c
     return STATUS;
 }
 
+uint32_t blossom_join_arrays(uint32_t vertices, const uint32_t *from, size_t from_length,
+                             const uint32_t *to, size_t to_length, const int64_t *weights,
+                             size_t weights_length, const uint32_t *starts, size_t starts_length,
+                             const uint32_t *terminals, size_t terminals_length, int64_t *output,
+                             size_t size, size_t *used) {
+    (void)vertices, (void)from, (void)from_length, (void)to, (void)to_length, (void)weights;
+    (void)weights_length, (void)starts, (void)starts_length, (void)terminals;
+    (void)terminals_length, (void)output, (void)size;
+    *used = 0;
+    return STATUS;
+}
+
 uint32_t blossom_check_arrays(uint32_t kind, uint32_t vertices, const uint32_t *from,
                               size_t from_length, const uint32_t *to, size_t to_length,
                               const int64_t *weights, size_t weights_length,

@@ -8,6 +8,7 @@ using Counts = std::vector<std::uint32_t>;
 using Pair = std::array<std::uint32_t, 2>;
 using View = blossom::View<std::uint32_t>;
 using blossom::Answer;
+using blossom::Joins;
 
 static_assert(std::is_convertible_v<Counts &, View>);
 static_assert(std::is_convertible_v<const Counts &, View>);
@@ -41,19 +42,21 @@ static_assert(!TakesBraces<int>::value);
 static_assert(!TakesBraces<std::uint32_t>::value);
 
 // Whether a part can be asked of an answer of this type.
-#define ASKED(name, call)                                                                          \
+#define ASKED(name, whole, call)                                                                   \
     template <class Of, class = void> struct name : std::false_type {};                            \
     template <class Of>                                                                            \
     struct name<Of, std::void_t<decltype(std::declval<Of>().call)>> : std::true_type {};           \
-    static_assert(name<const Answer &>::value && name<Answer &>::value);                           \
-    static_assert(!name<Answer>::value && !name<const Answer>::value);
-ASKED(Numbers, numbers())
-ASKED(Solution, solution())
-ASKED(Duals, duals())
-ASKED(SetMembers, set_members(0))
-ASKED(PathStarts, path_starts())
-ASKED(PathEdges, path_edges(0))
-ASKED(Obstruction, obstruction())
+    static_assert(name<const whole &>::value && name<whole &>::value);                             \
+    static_assert(!name<whole>::value && !name<const whole>::value);
+ASKED(Numbers, Answer, numbers())
+ASKED(Solution, Answer, solution())
+ASKED(Duals, Answer, duals())
+ASKED(SetMembers, Answer, set_members(0))
+ASKED(PathStarts, Answer, path_starts())
+ASKED(PathEdges, Answer, path_edges(0))
+ASKED(Obstruction, Answer, obstruction())
+ASKED(JoinNumbers, Joins, numbers())
+ASKED(JoinEdges, Joins, edges(0))
 
 } // namespace
 

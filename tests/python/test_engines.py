@@ -40,7 +40,7 @@ class Calls:
             return self
         raise blossom.SolverError("there is none")
 
-    def prepared(self, kind, numbers):
+    def prepared(self, numbers):
         self.noted.append("library")
         return mock.Mock(used=lambda odd: [0])
 

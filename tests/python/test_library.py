@@ -84,13 +84,14 @@ class Shared:
     a byte, or of numbers. `asked` has the numbers and texts of its calls, `arrays` those of its
     calls over arrays."""
 
-    def __init__(self, version=5, status=0, answer=b"", times=1, numbers=()):
+    def __init__(self, version=6, status=0, answer=b"", times=1, numbers=()):
         self.asked, self.status, self.answer, self.times = [], status, answer, times
         self.arrays, self.numbers = [], numbers
         self.blossom_abi = Function(lambda: version)
         self.blossom_call = Function(self.call)
         self.blossom_solve_arrays = Function(self.solve)
         self.blossom_check_arrays = Function(self.judge)
+        self.blossom_join_arrays = Function(None)
         self.verdict, self.judged = (0, ()), []
 
     def call(self, task, kind, text, length, buffer, room, used):
@@ -158,10 +159,10 @@ class Called(StandIn):
         return int(found.group(1))
 
     def test_another_version_is_refused(self):
-        for version in (0, 4, 6):
+        for version in (0, 5, 7):
             with self.assertRaisesRegex(
                 blossom.SolverError,
-                "has ABI version %d, but this package needs 5" % version,
+                "has ABI version %d, but this package needs 6" % version,
             ):
                 self.library(Shared(version)).run("solve", "perfect", b"")
         self.assertEqual(self.number("BLOSSOM_ABI"), library_module.ABI)

@@ -1,5 +1,5 @@
-"""Calls of the library that are prepared once, and the decoder's shots by them: beside the same
-shots by a process, and over stand-ins for the function that solves."""
+"""Calls of the library for joins that are prepared once, and the decoder's shots by them: beside
+the same shots by a process, and over stand-ins for the function that joins."""
 import concurrent.futures
 import copy
 import ctypes
@@ -13,9 +13,9 @@ from array import array
 from unittest import mock
 
 import blossom
-from blossom.array_library import HEAD, most_of_brief
-from blossom.buffers import Numbers
-from blossom.prepared import PreparedCall, PreparedCalls, places_of_ones
+from blossom.array_library import most_of_brief, most_of_joins
+from blossom.buffers import Numbers, address
+from blossom.prepared import PreparedCall, PreparedCalls, graph_words, joins_in, places_of_ones
 from support import StandIn, library_or_skip, wanted
 
 #: A path of five vertices, whose edges weigh 3, 1, 4 and 1.
@@ -33,32 +33,39 @@ def items(where, length, of):
     return list((of * plain(length)).from_address(plain(where)))
 
 
-class Function:
-    """In place of `blossom_solve_arrays`: notes what it is asked, and answers so."""
+def answer(edges, weight, outcome=0):
+    """The numbers of an answer to so many sets, all of which came to these edges."""
+    return lambda sets: [*[outcome] * sets, *[weight] * sets,
+                         *(len(edges) * place for place in range(sets + 1)), *[*edges] * sets]
 
-    def __init__(self, status=0, numbers=(1, 0, 0, 4, 0, 0, 0, 0, 0, 0, 0, 0, 0), fails=None):
+
+class Function:
+    """In place of `blossom_join_arrays`: notes what it is asked, and answers so."""
+
+    def __init__(self, status=0, numbers=answer((), 0), fails=None):
         self.status, self.numbers, self.fails, self.asked = status, numbers, fails, []
 
-    def __call__(self, task, kind, vertices, *words):
-        forms = [ctypes.c_uint32] * 2 + [ctypes.c_int64] * 2 + [ctypes.c_uint32]
+    def __call__(self, vertices, *words):
+        forms = [ctypes.c_uint32] * 2 + [ctypes.c_int64] + [ctypes.c_uint32] * 2
         lists = [items(*words[2 * place:2 * place + 2], of) for place, of in enumerate(forms)]
         output, room, used = words[10:]
-        self.asked.append((plain(task), plain(kind), plain(vertices), lists, plain(room)))
+        self.asked.append((plain(vertices), lists, plain(room)))
         if self.fails is not None:
             raise self.fails
-        told = (ctypes.c_int64 * len(self.numbers))(*self.numbers)
+        numbers = self.numbers(len(lists[3]) - 1) if callable(self.numbers) else self.numbers
+        told = (ctypes.c_int64 * len(numbers))(*numbers)
         ctypes.memmove(plain(output), told, ctypes.sizeof(told))
-        used._obj.value = len(self.numbers)
+        used._obj.value = len(numbers)
         return self.status
 
-
-def answer(counts, weight, state=1, edges=4):
-    """The numbers of an answer."""
-    return (state, weight, 0, edges, 0, 0, 0, 0, *counts, 0)
+    def sets(self):
+        """The sets of terminals of each call."""
+        return [[of[4][first:last] for first, last in zip(of[3], of[3][1:])]
+                for _, of, _ in self.asked]
 
 
 class By:
-    """In place of the library: prepares calls of this function, and answers all else so."""
+    """In place of the library: makes calls of this function, and answers all else so."""
 
     def __init__(self, function, status=0, output=b"s OPTIMAL tjoin 1\nx 1 1\n"):
         self.function, self.status, self.output, self.asked = function, status, output, []
@@ -67,8 +74,16 @@ class By:
         self.asked.append((task, kind, text))
         return self.status, self.output
 
-    def _prepared(self, kind, numbers):
-        return PreparedCall(self.function, 2, 6, numbers)
+    def _prepared(self, numbers):
+        return PreparedCall(self.function, numbers)
+
+    def _joins(self, numbers, starts, terminals):
+        sets, used = len(starts) - 1, ctypes.c_size_t()
+        room = (ctypes.c_int64 * most_of_joins(sets, len(numbers.first)))()
+        status = self.function(*graph_words(numbers), *address(starts), *address(terminals),
+                               ctypes.addressof(room), len(room), ctypes.byref(used))
+        found = memoryview(room).cast("B").cast("q")[:used.value]
+        return joins_in(found, sets) if status == 0 else None
 
 
 class Calls(unittest.TestCase):
@@ -80,32 +95,36 @@ class Calls(unittest.TestCase):
 
     def test_what_is_asked(self):
         function = Function()
-        call = PreparedCall(function, 2, 6, PATH)
+        call = PreparedCall(function, PATH)
         for odd in ([0, 4], [], [1, 2], [3, 4, 0, 1]):
             call.used(odd)
-            values = [int(vertex in odd) for vertex in range(5)]
+            terminals = [vertex + 1 for vertex in odd]
             self.assertEqual(function.asked.pop(), (
-                2, 6, 5, [[1, 2, 3, 4], [2, 3, 4, 5], [3, 1, 4, 1], [], values],
-                most_of_brief(4)))
+                5, [[1, 2, 3, 4], [2, 3, 4, 5], [3, 1, 4, 1], [0, len(odd)], terminals],
+                most_of_joins(1, 4)))
 
-    def test_there_is_room_for_a_brief_answer(self):
+    def test_there_is_room_for_an_answer(self):
         for edges in (0, 1, 7):
             self.assertEqual(most_of_brief(edges), 9 + 2 * edges)  # as BLOSSOM_SIZE_WITHOUT_PROOF
+            for sets in (0, 1, 5):  # as BLOSSOM_JOINS_SIZE
+                self.assertEqual(most_of_joins(sets, edges), 2 + 3 * sets + sets * edges)
 
     def test_what_is_read(self):
-        for counts, weight, used in (((1, 1, 1, 1), 9, [0, 1, 2, 3]), ((0, 0, 1, 0), 4, [2]),
-                                     ((0, 1, 0, 1), 2, [1, 3]), ((0, 0, 0, 0), 0, [])):
-            call = PreparedCall(Function(0, answer(counts, weight)), 2, 6, PATH)
+        for edges, weight, used in (((1, 2, 3, 4), 9, [0, 1, 2, 3]), ((3,), 4, [2]),
+                                    ((2, 4), 2, [1, 3]), ((), 0, [])):
+            call = PreparedCall(Function(0, answer(edges, weight)), PATH)
             self.assertEqual(call.used([0, 1]), used)
 
-    def test_what_is_no_answer_of_these(self):
-        told = answer((0, 1, 0, 1), 2)
-        for status, numbers in ((8, told), (9, told), (3, told), (4, told), (0, (2,) + told[1:]),
-                                (0, (3,) + told[1:]), (0, answer((0, 1, 0, 1), 3)),
-                                (0, answer((0, 2, 0, 0), 2)), (0, answer((0, 257, 0, 0), 257)),
-                                (0, answer((0, 1, 0), 1, 1, 3)), (0, answer((0, 1, 0, 1), -2))):
+    def test_what_is_no_join_of_these(self):
+        told = answer((2, 4), 2)
+        for status, numbers in ((8, told), (9, told), (3, told), (4, told),
+                                (0, answer((2, 4), 2, 1)), (0, answer((2, 4), 2, 2)),
+                                (0, answer((), 0, 3)), (0, answer((), 0, 4)),
+                                (0, answer((2, 4), 3)), (0, answer((2, 2, 2), 2)),
+                                (0, [0, 2, 0, 1, 2, 4]), (0, [0, 2, 0, 2, 2]),
+                                (0, answer((2, 4), -2))):
             with self.subTest(status=status, numbers=numbers):
-                call = PreparedCall(Function(status, numbers), 2, 6, PATH)
+                call = PreparedCall(Function(status, numbers), PATH)
                 self.assertIsNone(call.used([0, 4]))
 
     def test_each_thread_has_a_call_of_its_own_and_takes_it_again(self):
@@ -117,18 +136,18 @@ class Calls(unittest.TestCase):
                     inner.append(calls.used(odd[1:]))  # as another thread at the same time
                 return [len(made)]
 
-        calls = PreparedCalls(lambda: made.append(Call()) or made[-1])
+        calls = PreparedCalls(lambda: made.append(Call()) or made[-1], None)
         for odd, number in (([], 1), ([], 1), ([3], 2), ([3], 2), ([3, 4], 3), ([], 3)):
             self.assertEqual((calls.used(odd), len(made)), ([number], number))
 
     def test_a_call_that_was_interrupted_is_not_used_again(self):
         function = Function(fails=KeyboardInterrupt())
-        calls = PreparedCalls(lambda: PreparedCall(function, 2, 6, PATH))
+        calls = PreparedCalls(lambda: PreparedCall(function, PATH), None)
         with self.assertRaises(KeyboardInterrupt):
             calls.used([0, 4])
         function.fails = None
-        calls.used([1])
-        self.assertEqual(function.asked[-1][3][4], [0, 1, 0, 0, 0])
+        self.assertEqual((calls.used([1]), len(calls._idle)), ([], 1))
+        self.assertEqual(function.sets()[-1], [[2]])
 
 
 class Shots(unittest.TestCase):
@@ -137,37 +156,39 @@ class Shots(unittest.TestCase):
         return blossom.Decoder.from_edges(edges, engine=by, **words)
 
     def test_a_shot_is_one_call(self):
-        by = By(Function(0, answer((0, 1, 1, 0), 5)))
+        by = By(Function(0, answer((2, 3), 5)))
         decoder = self.decoder(by)
         for shot in ({1, 3}, [0, 1, 0, 1, 0]):
             self.assertEqual(decoder.decode(shot, return_weight=True), ([0, 1, 1, 0], 5))
         self.assertEqual(decoder.decode_to_edges_array({3, 1}), [(1, 2), (2, 3)])
-        self.assertEqual(([asked[3][4] for asked in by.function.asked], by.asked),
-                         ([[0, 1, 0, 1, 0]] * 3, []))
+        self.assertEqual((by.function.sets(), by.asked), ([[[2, 4]]] * 3, []))
 
     def test_the_boundary_is_met_where_the_detectors_are_odd(self):
-        by = By(Function(0, answer((0, 1, 1, 0), 3)))
+        by = By(Function(0, answer((2, 3), 3)))
         decoder = blossom.Decoder.from_edges([(0, None, 3, 0), (0, 1, 1, 1), (1, 2, 2, 3),
                                               (2, None, 4, 2)], engine=by)
-        for shot, values in (({0, 2}, [1, 0, 1, 0]), ({1}, [0, 1, 0, 1]), ([1, 1, 1], [1] * 4)):
+        for shot, terminals in (({0, 2}, [1, 3]), ({1}, [2, 4]), ([1, 1, 1], [1, 2, 3, 4])):
             self.assertEqual(decoder.decode(shot, return_weight=True), ([0, 1, 0, 1], 3))
-            self.assertEqual(by.function.asked[-1][3][4], values)
+            self.assertEqual(by.function.sets()[-1], [terminals])
 
     def test_shots_of_a_batch_are_calls_in_threads_where_the_graph_is_large(self):
         shots = [{1, 3}, [0, 1, 0, 1, 0], {0, 4}]
-        for small, pools in ((3, 1), (4, 0)):
-            by = By(Function(0, answer((0, 1, 1, 0), 5)))
+        for small, pools, calls in ((3, 1, 3), (4, 0, 1)):
+            by = By(Function(0, answer((2, 3), 5)))
             pool = mock.Mock(wraps=concurrent.futures.ThreadPoolExecutor)
             with mock.patch("blossom.decoder.SMALL", small), \
+                    mock.patch("blossom.decoding_batch.FEW_SETS", 1), \
+                    mock.patch("blossom.decoding_batch.processors", lambda: 3), \
                     mock.patch("concurrent.futures.ThreadPoolExecutor", pool):
                 decoder = self.decoder(by)
                 self.assertEqual(decoder.decode_batch(shots, return_weights=True),
                                  ([[0, 1, 1, 0]] * 3, [5] * 3))
                 self.assertEqual(decoder.decode_batch(shots[:1]), [[0, 1, 1, 0]])
                 self.assertEqual(decoder.decode_batch([]), [])
-            self.assertEqual((pool.call_count, len(by.function.asked), by.asked), (pools, 4, []))
+            self.assertEqual((pool.call_count, len(by.function.asked), by.asked),
+                             (pools, calls + 1, []))
             by.function.status, by.status, by.output = 8, 8, b""
-            with self.assertRaisesRegex(blossom.SolverError, "out of memory"):
+            with self.assertRaisesRegex(blossom.SolverError, "^shot 0: .*out of memory"):
                 decoder.decode_batch(shots)
 
     def test_an_executor_is_given_texts(self):
@@ -179,8 +200,7 @@ class Shots(unittest.TestCase):
 
     def test_what_a_prepared_call_does_not_answer_is_solved_in_full(self):
         text = b"p edge 5 4\ne 1 2 3\ne 2 3 1\ne 3 4 4\ne 4 5 1\nn 1 1\nn 5 1\n"
-        for function in (Function(9), Function(0, answer((0, 0, 0, 0), 1)),
-                         Function(0, answer((), 0, 2, 0))):
+        for function in (Function(9), Function(0, answer((), 1)), Function(0, answer((), 0, 1))):
             by = By(function)
             self.assertEqual(self.decoder(by).decode({0, 4}, return_weight=True),
                              ([1, 0, 0, 0], 3))
@@ -189,14 +209,16 @@ class Shots(unittest.TestCase):
         with self.assertRaisesRegex(blossom.SolverError, "out of memory"):
             self.decoder(by).decode({0, 4})
 
-    def test_the_library_prepares_brief_joins(self):
-        function = Function(0, answer((0, 1, 1, 0), 5))
-        library = types.SimpleNamespace(blossom_solve_arrays=function)
+    def test_the_library_prepares_joins(self):
+        function = Function(0, answer((2, 3), 5))
+        library = types.SimpleNamespace(blossom_join_arrays=function)
         with mock.patch("blossom.library.found", lambda path, environment: library):
             decoder = self.decoder("library")
             for other in (decoder, copy.deepcopy(decoder), pickle.loads(pickle.dumps(decoder))):
                 self.assertEqual(other.decode({1, 3}), [0, 1, 1, 0])
-                self.assertEqual(function.asked[-1][:3], (2, 6, 5))
+                self.assertEqual((function.asked[-1][0], function.sets()[-1]), (5, [[2, 4]]))
+                self.assertEqual(other.decode_batch([{1, 3}] * 2), [[0, 1, 1, 0]] * 2)
+                self.assertEqual(function.sets()[-1], [[2, 4]] * 2)
             for _ in range(3):
                 copied = pickle.loads(pickle.dumps(decoder))  # (which has made calls by now)
                 self.assertEqual(copied.decode({1, 3}), [0, 1, 1, 0])
@@ -313,14 +335,14 @@ class ByLibrary(unittest.TestCase):
         decoder, shot = self.by_library([(node, node + 1, 2) for node in range(300)]), {5, 9, 30}
         decoder.decode(shot | {8})
         call = decoder._planned().parts[0].calls._idle.pop()  # (the next shot makes another)
-        for vertex in shot | {8}:
-            call._values[vertex] = 1
+        terminals = array("I", [vertex + 1 for vertex in shot | {8}])
+        words = (*address(terminals), *call._last)
         whole, alone = [], []
         for _ in range(300):
             start = time.process_time()
             decoder.decode(shot | {8})
             between = time.process_time()
-            call._call()
+            call._call(*words)
             whole.append(between - start)
             alone.append(time.process_time() - between)
         # (Ten microseconds, on a machine that does nothing else; at most 50 are promised.)
@@ -345,12 +367,12 @@ class Syndromes(unittest.TestCase):
     def setUp(self):
         self.decoder = blossom.Decoder.from_edges(
             [(0, 1, 3, 0), (1, 2, 1, 1), (2, 3, 4, 2)], boundary=[3],
-            engine=By(Function(0, answer((0, 1, 0), 1, 1, 3))))
+            engine=By(Function(0, answer((2,), 1))))
 
     def fired(self, syndrome):
         self.decoder.decode(syndrome)
-        values = self.decoder._by.function.asked[-1][3][4]
-        return [vertex for vertex in range(3) if values[vertex]]
+        terminals, = self.decoder._by.function.sets()[-1]
+        return sorted(terminal - 1 for terminal in terminals if terminal < 4)
 
     def test_forms(self):
         for syndrome in ({1, 2}, frozenset([2, 1]), {1, 2, 3}, [0, 1, 1], [0, 1, 1, 0],
