@@ -9,7 +9,7 @@ import blossom
 from blossom import array_documents, documents
 from blossom.array_documents import ArrayDocument, copied
 from blossom.array_library import made_numbers, numbers_of_document
-from support import library_or_skip, made
+from support import library_or_skip, made, wanted
 
 SETS = (1, 3, 0, 4, 4, 2, 6, 0, 1, 0, 0, 1, 2, -2, 3, 5, 11, 13, 0, 3, 6, 1, 2, 3, 2, 3, 4)
 NESTED = (1, 3, 0, 1, 2, 2, 6, 0, 1, 4, 2, 7, 8, 0, 3, 6, 1, 2, 3, 4, 5, -1)
@@ -101,6 +101,10 @@ class States(unittest.TestCase):
                 array_documents.used(memoryview(array("q", counts))),
                 {place + 1: counts[place] for place in range(many) if place % 5 in (1, 3, 4)},
             )
+
+    def test_many_counts_are_looked_at_by_numpy(self):
+        wanted("numpy")
+        self.test_counts_that_are_used_few_or_many()
 
 
 class GoesBack(unittest.TestCase):

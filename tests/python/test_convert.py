@@ -113,6 +113,8 @@ class Read(unittest.TestCase):
             [(2, 2), (0, 1), (0, 3)],
         )
         self.assertEqual(read(GRAPHML.replace("value", "lower"), "graphml").lower, {"x": 2})
+        bare = GRAPHML.replace('key="d2"', 'key="capacity"')  # (a key that nothing declares)
+        self.assertEqual(read(bare, "graphml").capacities, [None, 3])
         for text, words in (
             ("<a", "not well-formed XML"),
             ("<a/>", "no <graph> element"),

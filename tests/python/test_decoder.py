@@ -192,6 +192,15 @@ class Built(unittest.TestCase):
         self.assertEqual(decoder.decode([1, 0], return_weight=True), ([1], 3))
         self.assertEqual(decoder.decode([1, 0, 1], return_weight=True), ([1], 3))
 
+    def test_a_node_of_networkx_without_edges_is_a_detector(self):
+        graph = wanted("networkx").Graph([(0, 1, {"weight": 1})])
+        graph.add_node(4)
+        decoder = blossom.Decoder.from_networkx(graph)
+        self.assertEqual((decoder.num_nodes, decoder.num_detectors), (5, 5))
+        self.assertEqual(decoder.decode_to_edges_array([1, 1, 0, 0, 0]), [(0, 1)])
+        with self.assertRaises(blossom.Infeasible):
+            decoder.decode({4})
+
     def test_two_edges_of_the_same_nodes(self):
         for merge, weight, least in (
             ("replace", 5, 5),

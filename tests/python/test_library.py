@@ -167,6 +167,13 @@ class Called(StandIn):
                 self.library(Shared(version)).run("solve", "perfect", b"")
         self.assertEqual(self.number("BLOSSOM_ABI"), library_module.ABI)
 
+    def test_a_call_that_is_missing(self):
+        for version, words in ((5, "can't be used: .*blossom_check_arrays"), (4, "ABI version 4")):
+            shared = Shared(version)
+            del shared.blossom_check_arrays
+            with self.assertRaisesRegex(blossom.SolverError, words):
+                self.library(shared).run("solve", "perfect", b"")
+
     def test_statuses_that_are_the_callers_fault(self):
         for status in (9, 10):
             with self.assertRaisesRegex(blossom.SolverError, "status %d on 3 bytes" % status):

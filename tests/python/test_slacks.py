@@ -177,6 +177,28 @@ class Slacks(unittest.TestCase):
                 self.assertEqual(proof.slack(name), known)
                 self.assertEqual(proof.slack((v, u, *name[2:])), known)
 
+    def test_reduced_cost_of_a_matched_edge(self):
+        """Two other edges at its ends cover them, or a parallel one does: the least slack."""
+        chance = random.Random("matched")
+        for _ in range(60):
+            edges, words = larger(chance, "perfect")
+            try:
+                answer = blossom.solve(edges, "perfect", engine="library", **words)
+            except blossom.Infeasible:
+                continue
+            of, slacks = answer.instance, list(map(answer.certificate.slack, range(len(edges))))
+            for name in answer.edges:
+                own = of.edges.index(name)
+                others = [
+                    [slack for index, slack in enumerate(slacks)
+                     if index != own and node in of.ends[index]]
+                    for node in of.ends[own]
+                ]
+                both = [slack for index, slack in enumerate(slacks)
+                        if index != own and set(of.ends[index]) == set(of.ends[own])]
+                least = sum(min(found, default=math.inf) for found in others)
+                self.assertEqual(answer.reduced_cost[name], min([least, *both]))
+
     def test_arrays(self):
         numpy = wanted("numpy")
         whole = blossom.solve([("a", "b", 2), ("b", "c", 6), ("c", "d", 2), ("d", "a", 6)],
