@@ -4,7 +4,7 @@ ghost use Rattle.graph_theory.specs.Limits.{IsWithinLimits};
 ghost use Rattle.mb_problem.specs.declared.answer.Parity.TheVariants.{Values};
 ghost use Rattle.mb_problem.specs.Joins.{HasJoin};
 ghost use Rattle.mb_problem.specs.Network.{vertices};
-ghost use Rattle.least_joins.specs.Least.{IsLeastJoin};
+ghost use Rattle.join_check.specs.Least.{IsLeastJoin};
 ghost use Rattle.array_joins.specs.Sets.{terminal_sets, starts_fault};
 ghost use Rattle.array_joins.specs.Terminals.{first_fault, network_with, HasNoTerminals, join_size};
 ghost use Rattle.array_joins.specs.Outcomes.{AnswersMarked, AnswersSet, AnswersEach, search_steps};
@@ -16,9 +16,9 @@ use crate::sets::set_at;
 use crate::weighing::weight_of;
 use certificates::is_within_limits;
 use graph_parts::{JoinOrOdd, join_or_odd};
-use least_joins::least_join;
 use mb_base::{OutOfMemory, Steps};
 use mb_problem::{EDGE_LIMIT, Instance, Join, Kind, Parity, gadget_size};
+use quick_joins::quick_join;
 use std::alloc::Global;
 use std::sync::ledger::Ledger;
 
@@ -60,7 +60,7 @@ fn answer<L: Ledger>(
     if !has_join(alloc, instance)? {
         return Ok(SetOutcome::NoJoin);
     }
-    let join = least_join(alloc, instance, &Parity::Values, steps)?;
+    let join = quick_join(alloc, instance, &Parity::Values, steps)?;
     Ok(joined(instance, join))
 }
 
