@@ -36,11 +36,6 @@ fn ahead(draw: u64) -> u64 {
     (draw >> 3) % AHEAD
 }
 
-/// The lower 64 bits of a moment.
-fn low_bits(moment: i128) -> u64 {
-    (moment.cast_unsigned() % (1 << 64)) as u64
-}
-
 /// Draws a node and gives it a moment from the clock on; one of four comes before equal moments.
 fn set_one(queue: &mut RisingQueue, state: State) -> State
     requires { length queue.old.blossoms ≡ 65_536 }
@@ -49,7 +44,7 @@ fn set_one(queue: &mut RisingQueue, state: State) -> State
     let first = next(state.draws);
     let second = next(first);
     let node = NodeId::new(((first >> 33) % u64::from(NODES)) as u32 + 1);
-    let moment = i128::from(state.clock) + i128::from(ahead(second >> 33));
+    let moment = state.clock.wrapping_add(ahead(second >> 33)).cast_signed();
     let rest = State {
         draws: second,
         clock: state.clock,
@@ -75,7 +70,7 @@ fn take_one(queue: &mut RisingQueue, state: State) -> State
         return state;
     };
     queue.remove(node);
-    let clock = low_bits(moment);
+    let clock = moment.cast_unsigned();
     let sum = state
         .sum
         .wrapping_mul(31)
