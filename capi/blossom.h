@@ -65,7 +65,7 @@ extern "C" {
 #endif
 
 /** Version of these declarations. Under another version a call or a number means something else. */
-#define BLOSSOM_ABI 6
+#define BLOSSOM_ABI 5
 
 /**
  * Version that the library was built for. Compare it with BLOSSOM_ABI if you load the library at

@@ -298,7 +298,7 @@ def wheel(folder, notes):
 
 def header():
     """The header, with the number of the release."""
-    text, line = text_of("capi/blossom.h"), "#define BLOSSOM_ABI 6\n"
+    text, line = text_of("capi/blossom.h"), "#define BLOSSOM_ABI 5\n"
     if text.count(line) != 1:
         raise Refused(
             "capi/blossom.h hasn't the one line %r, below which the number of the release stands"

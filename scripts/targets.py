@@ -7,7 +7,7 @@ import subprocess
 from sources import TOP, checksum_below
 
 # The shared object's name for the programs that are linked to it, with the version of its calls.
-SONAME = "libblossom.so.6"
+SONAME = "libblossom.so.5"
 # What lists the sources with their sizes and times, as ./blossom does.
 LOOK = "find crates.txt HANDLES VERSION crates ( -name out -o -name must-fail ) -prune -o".split()
 LOOK += "-type f ( -name *.rt -o -name *.antt -o -name crates.txt -o -name HANDLES".split()

@@ -40,7 +40,7 @@ def put_dist(room, program=PROGRAM):
         check=True,
     ).stdout.strip()
     packed = os.path.join(dist, "blossom-1.2.3-linux-x86_64.tar.gz")
-    files = {"bin/blossom": program, "lib/libblossom.so.6": b"library"}
+    files = {"bin/blossom": program, "lib/libblossom.so.5": b"library"}
     with tarfile.open(packed, "w:gz") as archive:
         for path, content in files.items():
             entry = tarfile.TarInfo("blossom-1.2.3-linux-x86_64/" + path)

@@ -23,7 +23,7 @@ from .kinds import KINDS
 from .prepared import Joins, PreparedCall, graph_words, joins_in
 
 #: What capi/blossom.h calls BLOSSOM_ABI: the version of the call that is declared here.
-ABI = 6
+ABI = 5
 TASKS = {"solve": 1, "brief": 2, "check": 3}
 KIND_NUMBERS: Dict[str, int] = {kind: number for number, kind in enumerate(KINDS, 1)}
 BUFFER_TOO_SMALL = 9

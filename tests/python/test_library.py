@@ -84,7 +84,7 @@ class Shared:
     a byte, or of numbers. `asked` has the numbers and texts of its calls, `arrays` those of its
     calls over arrays."""
 
-    def __init__(self, version=6, status=0, answer=b"", times=1, numbers=()):
+    def __init__(self, version=5, status=0, answer=b"", times=1, numbers=()):
         self.asked, self.status, self.answer, self.times = [], status, answer, times
         self.arrays, self.numbers = [], numbers
         self.blossom_abi = Function(lambda: version)
@@ -162,7 +162,7 @@ class Called(StandIn):
         for version in (0, 5, 7):
             with self.assertRaisesRegex(
                 blossom.SolverError,
-                "has ABI version %d, but this package needs 6" % version,
+                "has ABI version %d, but this package needs 5" % version,
             ):
                 self.library(Shared(version)).run("solve", "perfect", b"")
         self.assertEqual(self.number("BLOSSOM_ABI"), library_module.ABI)

@@ -83,7 +83,7 @@ pub extern "C" fn blossom_call(
 #[unsafe(no_mangle)]
 pub extern "C" fn blossom_abi() -> u32
     // The version of the calls for C.
-    ensures { result ≡ 6 }
+    ensures { result ≡ 5 }
 {
-    6
+    5
 }
