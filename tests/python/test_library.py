@@ -159,7 +159,7 @@ class Called(StandIn):
         return int(found.group(1))
 
     def test_another_version_is_refused(self):
-        for version in (0, 5, 7):
+        for version in (0, 4, 6):
             with self.assertRaisesRegex(
                 blossom.SolverError,
                 "has ABI version %d, but this package needs 5" % version,
@@ -168,11 +168,12 @@ class Called(StandIn):
         self.assertEqual(self.number("BLOSSOM_ABI"), library_module.ABI)
 
     def test_a_call_that_is_missing(self):
-        for version, words in ((5, "can't be used: .*blossom_check_arrays"), (4, "ABI version 4")):
-            shared = Shared(version)
-            del shared.blossom_check_arrays
-            with self.assertRaisesRegex(blossom.SolverError, words):
-                self.library(shared).run("solve", "perfect", b"")
+        for call in ("blossom_solve_arrays", "blossom_check_arrays", "blossom_join_arrays"):
+            for version, words in ((5, "can't be used: .*%s" % call), (4, "ABI version 4")):
+                shared = Shared(version)
+                delattr(shared, call)
+                with self.assertRaisesRegex(blossom.SolverError, words):
+                    self.library(shared).run("solve", "perfect", b"")
 
     def test_statuses_that_are_the_callers_fault(self):
         for status in (9, 10):
