@@ -9,7 +9,7 @@ use Rattle.mb_problem.specs.declared.answer.Parity.TheVariants.{Values}
 use Rattle.mb_problem.specs.Joins.{HasJoin}
 use Rattle.mb_problem.specs.Network.{Network, vertices, graph_of}
 use Rattle.mwpm_engine.specs.Solutions.{most_steps}
-use Rattle.least_joins.specs.Least.{IsLeastJoin}
+use Rattle.join_check.specs.Least.{IsLeastJoin}
 use Rattle.array_joins.specs.declared.outcome.TerminalFault.{TerminalFault}
 use Rattle.array_joins.specs.declared.outcome.SetOutcome.{SetOutcome}
 use Rattle.array_joins.specs.declared.outcome.SetOutcome.TheVariants.{Joined, NoJoin, Faulty}
