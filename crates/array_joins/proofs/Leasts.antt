@@ -1,17 +1,14 @@
 -- How many edges a join has at most, and their weights.
-use Rattle.mb_problem.proofs.Common.{ℕ, ◌+◌, ◌-◌, ◌≤◌, pos, ◌≤ℤ◌, Bool, true, false, cond, List, length, All, subst, sym, arith, ints}
+use Rattle.mb_problem.proofs.Common.{ℕ, ◌+◌, ◌-◌, ◌≤◌, pos, ◌≤ℤ◌, cond, List, length, All, subst, sym, arith, ints}
 use Rattle.mb_problem.proofs.Common.{IsStrictlyIncreasing, members_counted, int_sum_to-le, int_sum_to-one, holds, Network, graph_of, IsNetwork, ListsJoin, IsEdgeNumber, edge_of}
 use Rattle.mb_problem.proofs.Common.{IsWeight, edges-count, edge-weight, edge_at-graph_of}
 use Rattle.graph_theory.specs.declared.edge.Edge.{Edge}
-
-bit : (b : Bool) → cond b (pos 1) (pos 0) ≤ℤ pos 1
-bit true = omega (arith, ints)
-bit false = omega (arith, ints)
+use Rattle.graph_parts.proofs.Once.{at_most_one}
 
 ascending-few : (n : ℕ) (ms : List ℕ) → IsStrictlyIncreasing ms → All (λ m. (1 ≤ m) × (m ≤ n)) ms → length ms ≤ n
 ascending-few n ms up within =
     let all = members_counted n ms up within in
-    let few = int_sum_to-le (λ i. cond (holds ms (i + 1)) (pos 1) (pos 0)) (λ _. pos 1) n (λ k b. bit (holds ms (k + 1))) in
+    let few = int_sum_to-le (λ i. cond (holds ms (i + 1)) (pos 1) (pos 0)) (λ _. pos 1) n (λ k b. at_most_one (holds ms (k + 1))) in
     omega (arith, ints, all, few, int_sum_to-one n)
 
 -- at most as many as there are edges
