@@ -8,7 +8,7 @@ ghost use Rattle.gadget_tjoin.specs.Joins.{ReachesJoins};
 ghost use Rattle.mwpm_engine.specs.Solutions.{IsSolved, most_steps, size_of_graph, matching_of};
 ghost use Rattle.mwpm_engine.specs.declared.outcome.Outcome.TheVariants.{Matched};
 ghost use Rattle.mb_problem.specs.Joins.{HasJoin};
-ghost use Rattle.least_joins.specs.Least.{IsLeastJoin};
+ghost use Rattle.join_check.specs.Least.{IsLeastJoin};
 
 use crate::matched::matching;
 use gadget_tjoin::{extract, ports};

@@ -4,7 +4,7 @@ use Rattle.certificates.proofs.Common.{subst, arith, replicate, mul-le-mul, ints
 use Rattle.certificates.proofs.Common.{GRAPH_EDGE_LIMIT, Size, IsWithinLimits, HasSize, Kind, Parity, Empty, OddDegrees, asks_conservative, searches_of, HasNoNegativeEvenSet, EvenSetsDecide}
 use Rattle.certificates.proofs.Common.{Network, IsNetwork, graph_of, ports_size, odd_at, size_of, IsNoLarger, nothing-used, even-no-larger, two-searches, ports_graph, ReachesJoins}
 use Rattle.mb_problem.specs.Joins.{HasJoin}
-use Rattle.least_joins.specs.Least.{IsLeastJoin}
+use Rattle.join_check.specs.Least.{IsLeastJoin}
 use Rattle.mwpm_engine.specs.Solutions.{HasPerfect, most_steps, size_of_graph}
 use Rattle.kind_answers.specs.Solved.{HasFitWeights}
 

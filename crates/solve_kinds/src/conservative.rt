@@ -8,7 +8,7 @@ ghost use Rattle.mb_problem.specs.Joins.{ListsJoin};
 ghost use Rattle.mb_problem.specs.Network.{IsNetwork, graph_of};
 ghost use Rattle.mb_problem.specs.Ready.{HasWeightsFromZero};
 ghost use Rattle.mb_problem.specs.Size.{size_of, odd_at};
-ghost use Rattle.least_joins.specs.Least.{IsLeastJoin};
+ghost use Rattle.join_check.specs.Least.{IsLeastJoin};
 ghost use Rattle.mwpm_engine.specs.Solutions.{most_steps};
 ghost use Rattle.kind_answers.specs.Settled.{SettlesOrIsFit};
 

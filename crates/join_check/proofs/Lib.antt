@@ -1,0 +1,12 @@
+pub mod Parted
+pub mod Nodes
+pub mod Packing
+pub mod Turned
+pub mod Leasts
+pub mod Totals
+pub mod Counted
+pub mod Steps
+pub mod Listed
+pub mod LevelFacts
+pub mod TurnedEnds
+pub mod Assembled

@@ -1,0 +1,4 @@
+pub mod Forests
+pub mod Least
+pub mod Laws
+pub mod Checks

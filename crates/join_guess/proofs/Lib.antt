@@ -1,0 +1,2 @@
+pub mod PairedUp
+pub mod PortCounts
