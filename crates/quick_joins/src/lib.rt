@@ -5,4 +5,4 @@
 
 mod quick;
 
-pub use quick::quick_join;
+pub use quick::{guessed_join, quick_join};

@@ -32,16 +32,26 @@ fn accepted(
     }))
 }
 
-/// A join of least weight that is guessed and proved, if the guess is good.
-fn guessed<L: Ledger>(
+/// Guesses a T-join of minimum weight, and answers it if a check on the instance proves it: then
+/// there is a join (Schrijver, Combinatorial Optimization, volume A, chapter 29). Without a guess, or
+/// if the check refuses it, there may be a join or none.
+///
+/// # Errors
+///
+/// `OutOfMemory` if an allocation fails.
+pub fn guessed_join<L: Ledger>(
     alloc: Global,
     instance: &Instance,
     parity: &Parity,
     steps: &mut Steps<L>,
 ) -> Result<Option<Join>, OutOfMemory>
     requires limits { IsWithinLimits (ports_size instance.now (odd_at parity.now instance.now)) }
+
+    // What is answered is a T-join of minimum weight.
     ensures least { IfOk result
         (λ o. IfSome o (λ join. IsLeastJoin parity.now instance.now join.edges)) }
+
+    // Within half the steps of one search.
     ensures half { 2 * steps.new ≤ 2 * steps.old
         + most_steps (ports_size instance.now (odd_at parity.now instance.now)) }
 {
@@ -77,7 +87,7 @@ pub fn quick_join<L: Ledger>(
     ensures steps { steps.new ≤ steps.old
         + most_steps (ports_size instance.now (odd_at parity.now instance.now)) }
 {
-    if let Some(join) = guessed(alloc, instance, parity, steps)? {
+    if let Some(join) = guessed_join(alloc, instance, parity, steps)? {
         return Ok(join);
     }
     least_join(alloc, instance, parity, steps)
