@@ -33,8 +33,8 @@ fn accepted(
 }
 
 /// Guesses a T-join of minimum weight, and answers it if a check on the instance proves it: then
-/// there is a join (Schrijver, Combinatorial Optimization, volume A, chapter 29). Without a guess, or
-/// if the check refuses it, there may be a join or none.
+/// there is a join (Schrijver, Combinatorial Optimization, volume A, chapter 29). Without a guess,
+/// or if the check refuses it, there may be a join or none.
 ///
 /// # Errors
 ///
@@ -63,8 +63,8 @@ pub fn guessed_join<L: Ledger>(
 
 /// A join of this parity that weighs the least, if there is a join (Schrijver, Combinatorial
 /// Optimization, volume A, chapter 29). It is guessed, by searches over pairs of neighbouring
-/// vertices of odd degree, and a check on the instance proves it least. If there is no guess, or the
-/// check refuses it, the graph of ports is searched.
+/// vertices of odd degree, and a check on the instance proves it least. If there is no guess, or
+/// the check refuses it, the graph of ports is searched.
 ///
 /// The steps of all searches are counted on `steps`.
 ///
