@@ -1,5 +1,5 @@
 -- How many edges a join has at most, and their weights.
-use Rattle.mb_problem.proofs.Common.{ℕ, ◌+◌, ◌-◌, ◌≤◌, pos, ◌≤ℤ◌, cond, List, length, All, subst, sym, arith, ints}
+use Rattle.mb_problem.proofs.Common.{ℕ, ◌+◌, ◌-◌, ◌≤◌, pos, cond, List, length, All, subst, sym, arith, ints}
 use Rattle.mb_problem.proofs.Common.{IsStrictlyIncreasing, members_counted, int_sum_to-le, int_sum_to-one, holds, Network, graph_of, IsNetwork, ListsJoin, IsEdgeNumber, edge_of}
 use Rattle.mb_problem.proofs.Common.{IsWeight, edges-count, edge-weight, edge_at-graph_of}
 use Rattle.graph_theory.specs.declared.edge.Edge.{Edge}

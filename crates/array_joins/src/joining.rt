@@ -1,9 +1,10 @@
 //! The answers to sets of terminals.
-ghost use Rattle.std.specs.Prelude.{◌≡◌, ◌+◌, ◌≤◌, ◌<◌, ◌^◌, length, true, false, None, IfOk};
+ghost use Rattle.std.specs.Prelude.{◌≡◌, ◌+◌, ◌*◌, ◌≤◌, ◌<◌, ◌^◌, length, true, false, None, IfOk};
 ghost use Rattle.graph_theory.specs.Limits.{IsWithinLimits};
 ghost use Rattle.mb_problem.specs.declared.answer.Parity.TheVariants.{Values};
 ghost use Rattle.mb_problem.specs.Joins.{HasJoin};
 ghost use Rattle.mb_problem.specs.Network.{vertices};
+ghost use Rattle.mwpm_engine.specs.Solutions.{most_steps};
 ghost use Rattle.join_check.specs.Least.{IsLeastJoin};
 ghost use Rattle.array_joins.specs.Sets.{terminal_sets, starts_fault};
 ghost use Rattle.array_joins.specs.Terminals.{first_fault, network_with, HasNoTerminals, join_size};
@@ -16,9 +17,10 @@ use crate::sets::set_at;
 use crate::weighing::weight_of;
 use certificates::is_within_limits;
 use graph_parts::{JoinOrOdd, join_or_odd};
+use join_guess::guessed_join;
+use least_joins::least_join;
 use mb_base::{OutOfMemory, Steps};
 use mb_problem::{EDGE_LIMIT, Instance, Join, Kind, Parity, gadget_size};
-use quick_joins::quick_join;
 use std::alloc::Global;
 use std::sync::ledger::Ledger;
 
@@ -44,6 +46,39 @@ fn joined(instance: &Instance, join: Join) -> SetOutcome
     SetOutcome::Joined { join, weight }
 }
 
+/// The answer by a search of the graph of ports, if there is a join.
+fn answer_by_search<L: Ledger>(
+    alloc: Global,
+    instance: &Instance,
+    steps: &mut Steps<L>,
+) -> Result<SetOutcome, OutOfMemory>
+    requires { IsWithinLimits (join_size instance.now) }
+    ensures answer { IfOk result (AnswersMarked None instance.now) }
+    ensures half { 2 * steps.new ≤ 2 * steps.old + most_steps (join_size instance.now) }
+{
+    if !has_join(alloc, instance)? {
+        return Ok(SetOutcome::NoJoin);
+    }
+    let join = least_join(alloc, instance, &Parity::Values, steps)?;
+    Ok(joined(instance, join))
+}
+
+/// The answer within the limits: a join that is guessed and proved, or else that of a search.
+fn answer_within<L: Ledger>(
+    alloc: Global,
+    instance: &Instance,
+    steps: &mut Steps<L>,
+) -> Result<SetOutcome, OutOfMemory>
+    requires { IsWithinLimits (join_size instance.now) }
+    ensures answer { IfOk result (AnswersMarked None instance.now) }
+    ensures steps { steps.new ≤ steps.old + most_steps (join_size instance.now) }
+{
+    if let Some(join) = guessed_join(alloc, instance, &Parity::Values, steps)? {
+        return Ok(joined(instance, join));
+    }
+    answer_by_search(alloc, instance, steps)
+}
+
 /// The answer to terminals without a fault, at which alone the values are odd.
 fn answer<L: Ledger>(
     alloc: Global,
@@ -57,11 +92,7 @@ fn answer<L: Ledger>(
     if !is_within_limits(vertices, edges) {
         return Ok(SetOutcome::TooLarge);
     }
-    if !has_join(alloc, instance)? {
-        return Ok(SetOutcome::NoJoin);
-    }
-    let join = quick_join(alloc, instance, &Parity::Values, steps)?;
-    Ok(joined(instance, join))
+    answer_within(alloc, instance, steps)
 }
 
 /// The answer to terminals with this first fault, if there is one.

@@ -1,11 +1,13 @@
-//! Guesses a join of least weight, with a forest of lengths that may prove it. It depends on
-//! `mwpm_engine` for searches over pairs of vertices, and on `join_check` for the form of a
-//! forest. It promises that its searches count few steps, and nothing of what it guesses.
+//! Finds a T-join of minimum weight by a guess that a check proves. It depends on `mwpm_engine` for
+//! searches over pairs of vertices, and on `join_check` for the check. It promises that what it
+//! returns is a T-join of minimum weight, within half the steps of a search of the graph of ports;
+//! it may return none.
 #![tactic(auto)]
 
 mod arcs;
 mod forest;
 mod found;
+mod guessed;
 mod guessing;
 mod joining;
 mod leaves;
@@ -21,5 +23,4 @@ mod shown;
 mod spread;
 mod table;
 
-pub use guessing::guess;
-pub use rounds::Guess;
+pub use guessed::guessed_join;

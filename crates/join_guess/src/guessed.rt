@@ -1,13 +1,12 @@
 ghost use Rattle.std.specs.Prelude.{◌≡◌, ◌+◌, ◌*◌, ◌≤◌, IfOk, IfSome};
 ghost use Rattle.graph_theory.specs.Limits.{IsWithinLimits};
-ghost use Rattle.mb_problem.specs.Joins.{HasJoin};
 ghost use Rattle.mb_problem.specs.Size.{ports_size, odd_at};
 ghost use Rattle.join_check.specs.Least.{IsLeastJoin};
 ghost use Rattle.mwpm_engine.specs.Solutions.{most_steps};
 
+use crate::guessing::guess;
+use crate::rounds::Guess;
 use join_check::is_proved;
-use join_guess::{Guess, guess};
-use least_joins::least_join;
 use mb_base::{OutOfMemory, Sequence, Steps};
 use mb_problem::{Instance, Join, Parity};
 use std::alloc::Global;
@@ -32,16 +31,28 @@ fn accepted(
     }))
 }
 
-/// A join of least weight that is guessed and proved, if the guess is good.
-fn guessed<L: Ledger>(
+/// Guesses a T-join of minimum weight, and returns it if a check on the instance proves it
+/// (Schrijver, Combinatorial Optimization, volume A, chapter 29). It is found by searches over pairs
+/// of neighbouring vertices of odd degree. Without a result there may be a join or none.
+///
+/// The steps of its searches are counted on `steps`.
+///
+/// # Errors
+///
+/// `OutOfMemory` if an allocation fails.
+pub fn guessed_join<L: Ledger>(
     alloc: Global,
     instance: &Instance,
     parity: &Parity,
     steps: &mut Steps<L>,
 ) -> Result<Option<Join>, OutOfMemory>
     requires limits { IsWithinLimits (ports_size instance.now (odd_at parity.now instance.now)) }
+
+    // What is answered is a T-join of minimum weight.
     ensures least { IfOk result
         (λ o. IfSome o (λ join. IsLeastJoin parity.now instance.now join.edges)) }
+
+    // Within half the steps of one search.
     ensures half { 2 * steps.new ≤ 2 * steps.old
         + most_steps (ports_size instance.now (odd_at parity.now instance.now)) }
 {
@@ -49,36 +60,4 @@ fn guessed<L: Ledger>(
         return Ok(None);
     };
     accepted(alloc, instance, parity, guess)
-}
-
-/// A join of this parity that weighs the least, if there is a join (Schrijver, Combinatorial
-/// Optimization, volume A, chapter 29). It is guessed, by searches over pairs of neighbouring
-/// vertices of odd degree, and a check on the instance proves it least. If there is no guess, or the
-/// check refuses it, the graph of ports is searched.
-///
-/// The steps of all searches are counted on `steps`.
-///
-/// # Errors
-///
-/// `OutOfMemory` if an allocation fails.
-pub fn quick_join<L: Ledger>(
-    alloc: Global,
-    instance: &Instance,
-    parity: &Parity,
-    steps: &mut Steps<L>,
-) -> Result<Join, OutOfMemory>
-    requires limits { IsWithinLimits (ports_size instance.now (odd_at parity.now instance.now)) }
-    requires some { HasJoin parity.now instance.now }
-
-    // A T-join of minimum weight for each parity.
-    ensures least { IfOk result (λ join. IsLeastJoin parity.now instance.now join.edges) }
-
-    // Within the steps of one search.
-    ensures steps { steps.new ≤ steps.old
-        + most_steps (ports_size instance.now (odd_at parity.now instance.now)) }
-{
-    if let Some(join) = guessed(alloc, instance, parity, steps)? {
-        return Ok(join);
-    }
-    least_join(alloc, instance, parity, steps)
 }
