@@ -214,16 +214,16 @@ class Trial:
 
     def readable(self, chance, wanted):
         """A change for each of the functions, of those that compile; some may be left out."""
-        made, left = {}, list(wanted)
-        for _ in range(2):
+        made, left, draws = {}, list(wanted), 2
+        while left:
             for function in left:
-                found = self.changes(function)
+                made.pop(function, None)
+                found = self.changes(function) if draws > 0 else []
                 if found:
                     made[function] = mutations.drawn(chance, found)
-            left = sorted(self.not_read(made)) if made else []
-            if not left:
-                return made
-        return {function: change for function, change in made.items() if function not in left}
+            # (the errors of one step of the compiler hide those of the next)
+            left, draws = sorted(self.not_read(made)) if made else [], draws - 1
+        return made
 
 
 def verdict(function, said):

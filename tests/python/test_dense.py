@@ -429,6 +429,9 @@ class Answers(Dense):
         answer = blossom.min_weight_perfect_matching(costs=[[0, 0.1], [0.1, 0]], scale="finest",
                                                      engine="library")
         self.assertAlmostEqual(float(answer.weight), 0.1, places=10)
+        called = blossom.min_weight_perfect_matching(
+            points=square[:2], metric=lambda one, other: 0.1, scale="finest", engine="library")
+        self.assertEqual(called.instance.scale, answer.instance.scale)
 
     def test_pictures_have_the_points(self):
         square = [(0, 0), (0, 1), (5, 0), (5, 1)]

@@ -172,6 +172,15 @@ class Limits(unittest.TestCase):
 
 
 class Without(unittest.TestCase):
+    def test_what_networkx_shows_of_the_backend(self):
+        from blossom import networkx_backend
+
+        shown = networkx_backend.info()["functions"]
+        self.assertEqual(set(shown), {"max_weight_matching", "min_weight_matching"})
+        for name, weight in (("max_weight_matching", "greatest"), ("min_weight_matching", "least")):
+            self.assertIn("of %s weight" % weight, shown[name]["additional_docs"])
+            self.assertTrue(callable(getattr(networkx_backend, name)))
+
     def test_a_matching_of_most_edges_needs_no_networkx(self):
         from blossom.networkx_backend import most_edges
 

@@ -14,7 +14,7 @@ from unittest import mock
 import blossom
 from blossom.checkout import is_built_as_stamped, released_command
 from blossom.library import find_library
-from blossom.process import Running, find_program
+from blossom.process import Process, Running, find_program
 from blossom.processors import processors
 from support import TOP
 
@@ -337,6 +337,12 @@ class Ends(unittest.TestCase):
             running.stop()
             running.add(late)
             self.assertEqual((early.wait(20), late.wait(20)), (-9, -9))
+
+    def test_what_has_ended_is_kept_no_longer(self):
+        running = Running()
+        with stand_in("exit 2") as path:
+            self.assertEqual(Process(path).run("solve", "perfect", b"", running=running)[0], 2)
+        self.assertEqual(running.children, set())
 
     def number_in(self, path):
         for _ in range(1200):
