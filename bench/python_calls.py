@@ -270,8 +270,11 @@ def shots():
 
 
 def batches():
-    """Batches of shots by the library on these codes, with the bound of a row of an array."""
+    """Batches of shots by the library on these codes, with the bound of a row of an array. They
+    take one processor, since threads that share one core make the library's own calls slower."""
     numpy, chance, found = installed("numpy"), random.Random(4), {}
+    allowed = os.sched_getaffinity(0)
+    os.sched_setaffinity(0, {min(allowed)})
     for size in (7, 15, 22):
         decoder = code(size, blossom.Library())
         sets = [set(chance.sample(range(size * size), 8)) for _ in range(BATCH)]
@@ -285,6 +288,7 @@ def batches():
             more = beside(name, lambda given=given: decoder.decode_batch(given),
                           call_of(decoder, sets), SHOT_ROUNDS // BATCH + 1, BATCH)
             found[size, form] = 1e6 * more
+    os.sched_setaffinity(0, allowed)
     if numpy:
         bound("a shot of a batch as an array takes %.1f us beside the call for C",
               found[BOUND_SIZE, "an array"], MOST_BATCHED)

@@ -13,7 +13,7 @@ the same order, and `from_edges`. What is different:
 - A component of the graph has at most some 7,700 edges. Larger graphs are solved by components.
 
 `decode_batch` has the library find the joins of many shots by each call, and shots in an array of
-numpy stay in arrays up to their predictions. A shot takes some 50 microseconds to a few
+numpy stay in arrays up to their predictions. A shot takes a tenth of a millisecond to some
 milliseconds. The decoder is for judging decoders and for small codes.
 
     import blossom
