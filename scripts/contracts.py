@@ -1,7 +1,7 @@
 #!/usr/bin/env python3
 """Writes the page CONTRACTS.md of a release: the contracts of the program's call `run`, of the
-checker `judge` and of the library's `blossom_solve_arrays`, with every definition, type and
-constant of this repository that they reach.
+checker `judge` and of the library's `blossom_solve_arrays` and `blossom_join_arrays`, with every
+definition, type and constant of this repository that they reach.
 
 Usage: contracts.py [FILE]. Without a file it prints the page. A clause cites a definition, and that
 one others, as `scripts/uncited_definitions.py` reads them. Names of the toolchain's libraries
@@ -23,11 +23,17 @@ CALLS = (
         "src/array_border.rt",
         "What a C program gets for an instance in arrays.",
     ),
+    (
+        "blossom_join_arrays",
+        "blossom_c",
+        "src/join_border.rt",
+        "What a C program gets for many sets of terminals in one graph.",
+    ),
 )
 TYPE = re.compile(r"^pub (?:struct|enum|trait|const) (\w+)", re.M)
 FRONT = """# Contracts
 
-The contracts of three calls, and every definition of this repository that they reach: %(count)d
+The contracts of four calls, and every definition of this repository that they reach: %(count)d
 definitions and %(types)d types and constants on %(lines)s lines. This page is generated from the
 sources. What is proved is what it says: to judge that, you need to read no body and no proof.
 
