@@ -316,6 +316,11 @@ class NoAnswer(unittest.TestCase):
             {frozenset(pair) for pair in ((2, 3), (3, 4), (4, 2))},
         )
 
+    def test_a_path_is_no_negative_cycle(self):
+        found = blossom.solve([("a", "b", 1)], "path", source="a", target="b")
+        self.assertEqual(found.certificate.document.walk, (1, [1]))
+        self.assertIsNone(found.certificate.negative_cycle)
+
     def test_a_document_of_something_else(self):
         for text, words in (
             (b"s OPTIMAL match 5\nx 1 1\n", "expected perfect, got match"),
