@@ -1,24 +1,17 @@
--- The duals of the nodes that hold a vertex are added up along its chain; and where the ends of an edge lie in two outermost
--- nodes no blossom holds both, so the slack is what the dual sums of both ends leave.
-use Rattle.graph_theory.proofs.Common.{◌≡◌, ◌≢◌, ℕ, ℤ, pos, ◌+ℤ◌, ◌-ℤ◌, ◌*ℤ◌, true, false, cond, List, [], ◌∷◌, ◌++◌, sym, ap, ap₂, ◌∙◌}
-use Rattle.graph_theory.proofs.Common.{arith, ⊎_elim, ints, IsGraph, IsEdgeNumber, edge_of, holds}
+-- Where the ends of an edge lie in two outermost nodes no blossom holds both, so the slack is what the dual sums of both ends
+-- leave.
+use Rattle.graph_theory.proofs.Common.{◌≡◌, ◌≢◌, ℕ, ℤ, pos, ◌+ℤ◌, ◌-ℤ◌, ◌*ℤ◌, true, cond, List, [], ◌++◌, sym, ap, ap₂, ◌∙◌}
+use Rattle.graph_theory.proofs.Common.{arith, ⊎_elim, ints, IsGraph, IsEdgeNumber, edge_of}
 use Rattle.std.proofs.Common.{append-nil}
 use Rattle.graph_theory.specs.declared.edge.Edge.{Edge}
 use Rattle.blossom_arena.specs.Family.{Blossom, IsNested, is_vertex, outermost, chain_of}
 use Rattle.blossom_arena.specs.Slack.{duals_across}
+use Rattle.blossom_arena.proofs.ChainSums.{chain_dual_sum}
 use Rattle.blossom_arena.proofs.Ends.{u_vertex, v_vertex}
 use Rattle.alt_forest.specs.State.{State, held_by, dual_sum, doubled, slack_of, node_u, node_v}
 use Rattle.alt_forest.specs.Chains.{holders, total_of}
 use Rattle.search_lists.specs.IncidentEdges.{LeadsTo}
-use Rattle.alt_forest.proofs.Forks.{sharers, total-append, together, chain_split, across_split}
-
-pub chain_dual_sum : (y : ℕ → ℤ) (bs : List Blossom) (v : ℕ) → total_of y (chain_of bs v) ≡ y v +ℤ held_by y bs v
-chain_dual_sum y [] v = omega (arith, ints)
-chain_dual_sum y (b ∷ older) v = elim (holds b.members v) as (λ q. total_of y (cond q (chain_of older v ++ b.node ∷ []) (chain_of older v)) ≡ y v +ℤ
-    (cond q (y b.node) (pos 0) +ℤ held_by y older v)) [
-      | true ↦ omega (arith, ints, total-append y (chain_of older v) b.node, chain_dual_sum y older v)
-      | false ↦ omega (arith, ints, chain_dual_sum y older v)
-    ]
+use Rattle.alt_forest.proofs.Forks.{sharers, together, chain_split, across_split}
 
 -- all nodes that hold the one vertex miss the other
 apart_chain : (n : ℕ) (bs : List Blossom) (u v : ℕ) → IsNested n bs → is_vertex n u ≡ true → is_vertex n v ≡ true → outermost bs u ≢ outermost bs v

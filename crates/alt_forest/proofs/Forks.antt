@@ -12,6 +12,7 @@ use Rattle.blossom_arena.specs.Slack.{duals_across}
 use Rattle.blossom_arena.proofs.Lists.{each_from}
 use Rattle.blossom_arena.proofs.Nested.{range_vertex, blossoms_few}
 use Rattle.blossom_arena.proofs.Sets.{member_by_ring}
+use Rattle.blossom_arena.proofs.ChainSums.{total-append}
 use Rattle.blossom_arena.proofs.Parents.{chain_node as chain_has}
 use Rattle.alt_forest.specs.Chains.{apart, holders, total_of}
 
@@ -19,10 +20,6 @@ use Rattle.alt_forest.specs.Chains.{apart, holders, total_of}
 abbrev pub sharers : List Blossom → ℕ → ℕ → List ℕ
 sharers [] u v = []
 sharers (b ∷ older) u v = cond (holds b.members u && holds b.members v) (sharers older u v ++ b.node ∷ []) (sharers older u v)
-
-pub total-append : (y : ℕ → ℤ) (xs : List ℕ) (a : ℕ) → total_of y (xs ++ a ∷ []) ≡ y a +ℤ total_of y xs
-total-append y [] a = refl
-total-append y (x ∷ xs) a = let r : total_of y (xs ++ a ∷ []) ≡ y a +ℤ total_of y xs = total-append y xs a in omega (arith, ints)
 
 -- two vertices that some blossom holds both lie in one outermost node
 together_step : (p q : Bool) (ring : List Link) (o w b : ℕ) (xs ys : List ℕ) → p ≡ in_ring ring o → q ≡ in_ring ring w → (xs ≡ []) ⊎ (o ≡ w)

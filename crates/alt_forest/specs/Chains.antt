@@ -1,9 +1,10 @@
 -- The nodes that hold the ends of an edge. Only clauses of private calls cite what stands here, but
 -- for `weighed`.
-use Rattle.std.specs.Prelude.{ℕ, suc, ℤ, pos, ◌+ℤ◌, not, ◌&&◌, ◌==◌, if◌then◌else◌, List, [], ◌∷◌}
+use Rattle.std.specs.Prelude.{ℕ, suc, ℤ, pos, not, ◌&&◌, ◌==◌, if◌then◌else◌, List, [], ◌∷◌}
 use Rattle.std.specs.Prelude.{◌++◌, Option, Some, None}
 use Rattle.graph_theory.specs.Parts.{holds}
 use Rattle.blossom_arena.specs.Family.{Blossom}
+pub use Rattle.blossom_arena.specs.Slack.{total_of}
 use Rattle.graph_theory.specs.declared.edge.Edge.{Edge}
 use Rattle.alt_forest.specs.declared.weights.Weights.{Weights}
 use Rattle.alt_forest.specs.declared.weights.Weights.TheVariants.{Zero, Given}
@@ -24,11 +25,6 @@ abbrev pub apart : List ℕ → List ℕ → ℕ
 apart [] ys = 0
 apart (x ∷ xs) [] = 0
 apart (x ∷ xs) (y ∷ ys) = if x == y then 0 else suc (apart xs ys)
-
--- the duals of these nodes, added up
-abbrev pub total_of : (ℕ → ℤ) → List ℕ → ℤ
-total_of y [] = pos 0
-total_of y (x ∷ xs) = y x +ℤ total_of y xs
 
 -- the dual of a node, if there is one
 abbrev pub dual_of : (ℕ → ℤ) → Option ℕ → ℤ
