@@ -5,13 +5,16 @@ changed: calls, clauses, and definitions that the clauses of public calls reach.
 Usage: compare_clauses.py REVISION [TOP]. A difference is allowed if scripts/clause_changes.txt
 explains it, in lines of these forms (`#` starts a comment):
 
-    rename OLD NEW              a word of code or clauses: crate, type, call, clause or definition
+    rename OLD NEW [CRATE ..]   a word of code or clauses: crate, type, call or definition
+    clause OLD NEW [CRATE ..]   a clause or a field of a record; it may have several new names
+    phrase OLD -> NEW           a part of the text of clauses or definitions
     moved CRATE::CALL CRATE::CALL           a call that stands elsewhere now
     stronger CRATE::CALL CLAUSE REASON      why a clause that changed promises no less
     gone CRATE::CALL REASON                 why a call went
     definition CRATE.NAME REASON            why a definition that changed promises no less
 
-A clause without a name has the name `-`. `requires` that came or changed count too, since callers
+CRATE is a crate as it was named, where a word is renamed in some crates alone. A clause without a
+name has the name `-`. `requires` that came or changed count too, since callers
 have to meet them: CLAUSE is then `requires:NAME`. An explanation that no difference needs is
 listed as well. The last line counts what is left, and the status is 1 if that isn't 0."""
 import argparse
@@ -89,11 +92,24 @@ def reached_definitions(top):
     return {key: " | ".join(sorted(text)) for key, text in texts.items()}
 
 
+WORD = re.compile(r"[\w'◌]+")
+#: What stands before the name of a field: a record, another field, or the record's declaration.
+FIELD_BEFORE = re.compile(r"[\w')\]]\.$|[{;] $|\bpub $|\bwhere $")
+FIELD_AFTER = re.compile(r" [:=] ")
+
+
+def is_field(text, word):
+    """Whether a word of a clause or a definition is the name of a field."""
+    before = FIELD_BEFORE.search(text, max(0, word.start() - 6), word.start())
+    return bool(before) and (text[word.start() - 1] == "." or FIELD_AFTER.match(text, word.end()))
+
+
 class Table:
     """The explanations of scripts/clause_changes.txt, and which of them were needed."""
 
     def __init__(self, path):
-        self.words, self.moved, self.reasons, self.needed = {}, {}, {}, set()
+        self.words, self.clauses = collections.defaultdict(dict), collections.defaultdict(dict)
+        self.phrases, self.moved, self.reasons, self.needed = {}, {}, {}, set()
         if not os.path.exists(path):
             return
         with open(path, encoding="utf-8") as file:
@@ -104,15 +120,57 @@ class Table:
         if not fields:
             return
         if fields[0] == "rename":
-            self.words[fields[1]] = fields[2]
+            for crate in fields[3:] or [None]:
+                self.words[crate][fields[1]] = fields[2]
+        elif fields[0] == "clause":
+            for crate in fields[3:] or [None]:
+                self.clauses[crate].setdefault(fields[1], []).append(fields[2])
+        elif fields[0] == "phrase":
+            old, _, new = " ".join(fields[1:]).partition(" -> ")
+            self.phrases[old] = new
         elif fields[0] == "moved":
             self.moved[fields[1]] = fields[2]
         else:
             keys = 3 if fields[0] == "stronger" else 2
             self.reasons[tuple(fields[:keys])] = " ".join(fields[keys:])
 
-    def renamed(self, text):
-        return re.sub(r"[\w◌-]+", lambda word: self.words.get(word[0], word[0]), text)
+    def word(self, crate, word):
+        """A word of a crate as it is named now."""
+        return self.words[crate].get(word, self.words[None].get(word, word))
+
+    def clause(self, crate, name, now):
+        """A clause's name as it is now: of several new names the one that a call has."""
+        kind, _, bare_name = name.rpartition(":")
+        news = [*self.clauses[crate].get(bare_name, []), *self.clauses[None].get(bare_name, [])]
+        named = [new if not kind else kind + ":" + new for new in [*news, bare_name]]
+        return next((new for new in named if new in now), name)
+
+    def fields(self, crate):
+        """Of each field of a crate that was renamed, by its new names and its own, the old one."""
+        found = {}
+        for renamed in (self.clauses[None], self.clauses[crate]):
+            for old, news in renamed.items():
+                found.update(dict.fromkeys([old, *news], old))
+        return found
+
+    def text(self, crate, text, was):
+        """A text of a crate to compare: as it is named now, but with fields as they were."""
+        if was:
+            for old, new in self.phrases.items():
+                text = text.replace(old, new)
+        fields = self.fields(crate)
+
+        def named(word):
+            if is_field(text, word) and word[0] in fields:
+                return fields[word[0]]
+            return self.word(crate, word[0]) if was else word[0]
+
+        return WORD.sub(named, text)
+
+    def renamed(self, name):
+        """The name of a call or a definition, which begins with its crate."""
+        crate = WORD.match(name)[0]
+        return WORD.sub(lambda word: self.word(crate, word[0]), name)
 
     def place(self, call):
         return self.moved.get(call, self.renamed(call))
@@ -132,7 +190,12 @@ def differences(table, before, after):
             if not table.explains("gone", call):
                 yield "%s: the call is gone" % call
             continue
-        old = {table.renamed(name): table.renamed(text) for name, text in before[call].items()}
+        crate = call.split("::")[0]
+        old = {
+            table.clause(crate, name, now): table.text(crate, text, True)
+            for name, text in before[call].items()
+        }
+        now = {name: table.text(crate, text, False) for name, text in now.items()}
         for name in sorted(old.keys() | now.keys()):
             came = name not in old
             if old.get(name) == now.get(name) or came and not name.startswith("requires:"):
@@ -148,10 +211,14 @@ def definition_differences(table, before, after):
     for key in sorted(before):
         now = after.get(table.renamed(key))
         if now is None:
-            named = table.renamed(key.split(".")[1])
+            named = table.renamed(key).split(".")[1]
             same = [name for name in after if name.split(".")[1] == named]
             now = after[same[0]] if len(same) == 1 else None
-        if now != table.renamed(before[key]) and not table.explains("definition", key):
+        crate = key.split(".")[0]
+        was = table.text(crate, before[key], True)
+        if now is not None:
+            now = table.text(crate, now, False)
+        if now != was and not table.explains("definition", key):
             yield "%s: the definition %s" % (key, "is gone" if now is None else "changed")
 
 

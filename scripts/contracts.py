@@ -15,7 +15,12 @@ from sources import TOP, crates_below
 from uncited_definitions import Definitions, bare, imports
 
 CALLS = (
-    ("run", "match_cli", "src/top.rt", "What the program does, from its arguments to its status."),
+    (
+        "run",
+        "match_cli",
+        "src/program.rt",
+        "What the program does, from its arguments to its status.",
+    ),
     ("judge", "cert_check", "src/judging.rt", "What `check` decides about a document."),
     (
         "blossom_solve_arrays",

@@ -10,7 +10,7 @@ copies of those of `bmatch`, and prints all files that it changed and their numb
 about five minutes.
 
 With --prove it has the prover check these crates of the copy, lowest first: `mb_problem` takes five
-minutes with the crates below it, `kind_answers` three quarters of an hour. If they are proved,
+minutes with the crates below it, `solve_answers` three quarters of an hour. If they are proved,
 nothing else in them lacks a row. No test of CI runs the script, since it takes over a minute."""
 import argparse
 import os
@@ -61,7 +61,7 @@ LIKE_BMATCH = """like_first Dummy = record {
     feasible = λ i answer f. f;
     value = λ i answer. refl;
     form = refl;
-    exclusion = refl;
+    obstruction = refl;
     conservative = refl;
     start = refl;
   };

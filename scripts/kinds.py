@@ -110,7 +110,7 @@ class Kind:
         self.name = re.fullmatch(r'b"(\w+)"', of("name"))[1]
         self.number = int(of("number"))
         self.walk = of("form") == "Walk"
-        self.exclusion = of("exclusion")
+        self.obstruction = of("obstruction")
         self.needs = of("needs")
         self.value = of("vertex_value")
         self.use = of("edge_use")
@@ -138,7 +138,7 @@ def tuples(kinds):
         (
             "PERFECT",
             "Kinds whose answer covers each node once.",
-            lambda k: k.value == "Unused" and k.exclusion == "Barrier",
+            lambda k: k.value == "Unused" and k.obstruction == "Barrier",
         ),
         (
             "OF_NODES",
@@ -226,7 +226,7 @@ def problems_part(kinds):
         text, call = TEXTS[kind.name]
         rows.append(
             "| %s | `%s` | `%s` | %s | %s |"
-            % (text, call, kind.name, BEST[kind.proof], NONE[kind.exclusion])
+            % (text, call, kind.name, BEST[kind.proof], NONE[kind.obstruction])
         )
     return "\n".join(rows)
 
@@ -243,7 +243,7 @@ def letters(kind):
     """The lines of a document of a kind: behind its solution those that prove it optimal, and those
     of an infeasible instance, if there can be one."""
     proof = {"Duals": "y, z", "LighterBarrier": "u", "OuterPaths": "d, u, r"}[kind.proof]
-    none = {"Barrier": "u", "OddPart": "t", "SplitPart": "q", "Never": None}[kind.exclusion]
+    none = {"Barrier": "u", "OddPart": "t", "SplitPart": "q", "Never": None}[kind.obstruction]
     return ("w" if kind.walk else "x") + ", " + proof, none
 
 

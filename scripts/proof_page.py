@@ -11,7 +11,7 @@ STATEMENTS = (
     ("the contract of `cert_check::judge`", ("cert_check/src/judging.rt", "judge")),
     ("the contract of `mwpm_engine::Engine::run`", ("mwpm_engine/src/engine.rt", "Engine::run")),
     ("the contract of `kind_solver::solve`", ("kind_solver/src/solving.rt", "solve")),
-    ("the contract of `match_cli::run`, with all formats", ("match_cli/src/top.rt", "run")),
+    ("the contract of `match_cli::run`, with all formats", ("match_cli/src/program.rt", "run")),
 )
 
 

@@ -151,7 +151,7 @@ def longest_answer(program, library, tests):
     """The header's longest answers are what is proved of a computed document, and what docs/C.md
     says."""
     with open(
-        os.path.join(TOP, "crates", "kind_answers", "src", "limits.rt"), encoding="utf-8"
+        os.path.join(TOP, "crates", "solve_answers", "src", "limits.rt"), encoding="utf-8"
     ) as file:
         proved = file.read()
     with open(os.path.join(TOP, "docs", "C.md"), encoding="utf-8") as file:

@@ -30,6 +30,7 @@ CHECKS = (
     "docs.py --lengths",
     "figures.py",
     "prose.py",
+    "names.py",
     "proof_names.py --check",
 )
 #: What is planted behind docs/PROOF.md, and what is said of it.
@@ -43,6 +44,22 @@ WRONG_NAMES = (
     ("`mwpm_engines`", "no crate, definition or path is mwpm_engines"),
     ("`scripts/no_such.py`", "no crate, definition or path is scripts/no_such.py"),
     ("[page](NO_SUCH.md)", "no page is at NO_SUCH.md"),
+)
+#: A source with old names, and what is said of them.
+OLD_NAMES = """/// A seed, and `seed`.
+pub struct Hop {}
+
+fn count(x: u32) -> bool
+    requires few { x < 5 }
+    ensures { x < 6 }
+{}
+"""
+FOUND_NAMES = (
+    "edge_queue: the crate edge_queue: write search_heap",
+    "edge_queue/src/top.rt: the module top: write program",
+    "edge_queue/src/top.rt:2: the type Hop: write GrandparentLink",
+    "edge_queue/src/top.rt:5: the clause few: write size_limit",
+    "edge_queue/src/top.rt:1: 'seed': write tree id",
 )
 #: A source with promises, and what is read of it: call, clauses, sentence.
 SOURCE = """
@@ -220,6 +237,21 @@ def planted_prose(tests):
             tests.compare("prose of %r" % text, b"", wanted, [said in told for told in found])
 
 
+def planted_old_names(tests):
+    """Old names of a crate, a module, a type and a clause are found, and an old word."""
+    with tempfile.TemporaryDirectory() as room:
+        os.makedirs(os.path.join(room, "crates", "edge_queue", "src"))
+        with open(os.path.join(room, "crates/edge_queue/src/top.rt"), "w") as file:
+            file.write(OLD_NAMES)
+        done = subprocess.run(
+            [sys.executable, os.path.join(TOP, "scripts", "names.py"), room],
+            capture_output=True,
+            text=True,
+        )
+        found = [line for line in done.stdout.splitlines() if line.startswith("edge_queue")]
+        tests.compare("old names", b"", (1, list(FOUND_NAMES)), (done.returncode, found))
+
+
 def manual(tests):
     """The man pages: no warning, and each kind is told."""
     if shutil.which("man") is None:
@@ -254,5 +286,6 @@ def check(tests):
     planted_verdicts(tests)
     planted_parts(tests)
     planted_prose(tests)
+    planted_old_names(tests)
     manual(tests)
     completions(tests)

@@ -12,7 +12,7 @@ from made_release import TOP, bytes_of, script
 
 HOME = "share/doc/blossom/"
 CALLS = {
-    "run": "crates/match_cli/src/top.rt",
+    "run": "crates/match_cli/src/program.rt",
     "judge": "crates/cert_check/src/judging.rt",
     "blossom_solve_arrays": "crates/blossom_c/src/array_border.rt",
 }

@@ -85,17 +85,17 @@ pub use Rattle.blossom_arena.specs.declared.label.Label.{Label}
 pub use Rattle.blossom_arena.specs.declared.label.Label.TheVariants.{Inner, Out, Outer}
 pub use Rattle.blossom_arena.specs.declared.links.Link.{Link}
 pub use Rattle.base_types.specs.declared.ids.NodeId.{NodeId}
-pub use Rattle.edge_queue.proofs.Maps.{only_items_have, places_stay}
-pub use Rattle.edge_queue.specs.Moments.{IsItem, IsLeast, Moments, entry, moment_of, no_moments, with_moment}
-pub use Rattle.edge_queue.specs.declared.item.Item.{Item}
-pub use Rattle.search_lists.proofs.IncidenceLists.{incident_count, incident_number}
-pub use Rattle.search_lists.specs.IncidentEdges.{IsIncidentEdge, LeadsTo, numbers_of}
+pub use Rattle.search_heap.proofs.Maps.{only_items_have, places_stay}
+pub use Rattle.search_heap.specs.Moments.{IsItem, IsLeast, Moments, entry, moment_of, no_moments, with_moment}
+pub use Rattle.search_heap.specs.declared.item.Item.{Item}
+pub use Rattle.search_tables.proofs.IncidenceLists.{incident_count, incident_number}
+pub use Rattle.search_tables.specs.IncidentEdges.{IsIncidentEdge, LeadsTo, numbers_of}
 pub use Rattle.alt_forest.proofs.Ascending.{holds-picked, new-map, new_from_ascending, picked_ascends, picked_set}
 pub use Rattle.alt_forest.proofs.Counted.{counted, no_entry, no_roots, one_if, passing_root, root_passes, roots_counted}
 pub use Rattle.alt_forest.proofs.DualSums.{slack_leading}
 pub use Rattle.alt_forest.proofs.Duals.{low_at}
 pub use Rattle.alt_forest.proofs.EntrySteps.{by_places, entered_same}
-pub use Rattle.alt_forest.proofs.Hops.{AreHops, IsHop, has_hop, hop_above, hop_path, hop_root, hop_shorter, links_up, read_is, up_to_inner}
+pub use Rattle.alt_forest.proofs.Hops.{AreHops, IsGrandparentLink, has_hop, hop_above, hop_path, hop_root, hop_shorter, links_up, read_is, up_to_inner}
 pub use Rattle.alt_forest.proofs.Incidence.{incidence_around, incidence_leads}
 pub use Rattle.alt_forest.proofs.Leads.{leads, leads_joins, leads_vertex, leads_weight}
 pub use Rattle.alt_forest.proofs.Looks.{all_ends, ends_most, outside_ends_fall, weigh_less}
@@ -108,11 +108,11 @@ pub use Rattle.alt_forest.proofs.Paths.{IsPassed, descends, passed_at, path_enou
 pub use Rattle.alt_forest.proofs.Places.{label_place, mate_place, nested_of, other_outer, outer_range, parent_place, u_outer, v_outer, vertex_outer}
 pub use Rattle.alt_forest.proofs.Planted.{members_fit, members_vertices, planted_blossoms, planted_state, root_looks}
 pub use Rattle.alt_forest.proofs.Puts.{put_dual}
-pub use Rattle.alt_forest.proofs.Queues.{blossom_other, blossom_set, count_removed, edge_item, edge_other, edge_set, node_item, standing_with}
+pub use Rattle.alt_forest.proofs.Queues.{blossom_other, blossom_set, count_removed, edge_item, edge_other, edge_set, node_item, tree_nodes_with}
 pub use Rattle.alt_forest.proofs.Relabelled.{inner_not_out, outer_not_inner, outer_not_out, put_here, put_other, some_not_none}
 pub use Rattle.alt_forest.proofs.Roots.{forests_have_parity, path_root, path_up, root_self, root_up, some_node, up_or_root, ways_lead}
 pub use Rattle.alt_forest.proofs.Rounds.{GoesRound, LeadsRound, each_round, goes_round, leads_round, next_node-append}
-pub use Rattle.alt_forest.proofs.Seeds.{AreTrees, roots_are_trees, tree_root}
+pub use Rattle.alt_forest.proofs.TreeIds.{AreTrees, roots_are_trees, tree_root}
 pub use Rattle.alt_forest.proofs.Tight.{tight_ring, tight_rings}
 pub use Rattle.alt_forest.proofs.Walk.{deeper_differs, other_node_joins, path_none, path_step, up_step}
 pub use Rattle.alt_forest.specs.Chains.{total_of}
@@ -122,8 +122,8 @@ pub use Rattle.alt_forest.specs.Entries.{ForMoment, HasNoTree, IsBlossomEntered,
 pub use Rattle.alt_forest.specs.Entries.{looks_left, out_ends, outside_ends, touches_any}
 pub use Rattle.alt_forest.specs.Events.{CanAugment, CanExpand, CanGrow, CanShrink}
 pub use Rattle.alt_forest.specs.Searches.{HasShape, IsSound, IsStart, edge_in, is_given, label_at, put, state_of}
-pub use Rattle.alt_forest.specs.Standing.{AreListed, AreMoving, IsSeed, IsStanding, seed_at}
+pub use Rattle.alt_forest.specs.TreeNodes.{AreListed, AreMoving, IsTreeId, HasTreeNodes, tree_id_at}
 pub use Rattle.alt_forest.specs.State.{ExposedAgree, FitsLabel, HasRings, IsChainTo, IsExposed, IsInner, IsMate, IsOutermost, IsRing, IsSearchState, IsTight, Joins, State, doubled, dual_sum}
 pub use Rattle.alt_forest.specs.State.{held_by, next_node, node_u, node_v, slack_of, slack_with}
 pub use Rattle.alt_forest.specs.Trees.{IsRoot, SameParity, far_end, first_common, is_label, last_of, node_limit, other_node, path_of, path_within, root_of, up_edge, up_edge_by, up_of}
-pub use Rattle.alt_forest.specs.Ways.{HasHop, IsRead}
+pub use Rattle.alt_forest.specs.Ways.{HasGrandparentLink, IsRead}

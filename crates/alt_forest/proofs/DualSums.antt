@@ -10,7 +10,7 @@ use Rattle.blossom_arena.proofs.ChainSums.{chain_dual_sum}
 use Rattle.blossom_arena.proofs.Ends.{u_vertex, v_vertex}
 use Rattle.alt_forest.specs.State.{State, held_by, dual_sum, doubled, slack_of, node_u, node_v}
 use Rattle.alt_forest.specs.Chains.{holders, total_of}
-use Rattle.search_lists.specs.IncidentEdges.{LeadsTo}
+use Rattle.search_tables.specs.IncidentEdges.{LeadsTo}
 use Rattle.alt_forest.proofs.Forks.{sharers, together, chain_split, across_split}
 
 -- all nodes that hold the one vertex miss the other

@@ -4,8 +4,8 @@ use Rattle.graph_theory.proofs.Common.{arith, ℤ, eqb-true, eqb-false, both_way
 use Rattle.graph_theory.specs.declared.edge.Edge.{Edge as GraphEdge}
 use Rattle.std.proofs.lemmas.List.{drop_all}
 use Rattle.blossom_arena.proofs.Lists.{by_test}
-use Rattle.edge_queue.specs.declared.item.Item.TheVariants.{Edge}
-use Rattle.edge_queue.specs.Moments.{Moments, moment_of, entry}
+use Rattle.search_heap.specs.declared.item.Item.TheVariants.{Edge}
+use Rattle.search_heap.specs.Moments.{Moments, moment_of, entry}
 use Rattle.alt_forest.specs.declared.search.Search.{Search}
 use Rattle.alt_forest.specs.State.{State}
 use Rattle.alt_forest.specs.Searches.{state_of}
@@ -73,4 +73,4 @@ vertex_entered s r v vs rest h here others blossoms = subst (λ (x : Search). Is
 pub but_none_queued : (s : Search) (k : ℕ) (vs : List ℕ) → length vs ≤ k → IsQueuedBut s (drop k vs) → IsQueued s
 but_none_queued s k vs all h =
     let edges = λ (e : ℕ) (is : IsEdgeNumber s.graph e). h.edges e is (ap (λ xs. touches_any xs (edge_of s.graph e)) (drop_all k vs all)) in
-    record { low = h.low; high = h.high; edges = edges; blossoms = h.blossoms; still = λ n. absurd (h.tree n); empty = λ n item. absurd (h.tree n) }
+    record { low = h.low; high = h.high; edges = edges; blossoms = h.blossoms; idle_clock = λ n. absurd (h.tree n); empty = λ n item. absurd (h.tree n) }

@@ -129,7 +129,7 @@ forked p q s d k l ek el =
 -- the two chains of an edge's ends
 pub record IsEnds (n : ℕ) (bs : List Blossom) (u v : ℕ) : Type 0 where
   pub nested : IsNested n bs
-  pub few : n ≤ GRAPH_VERTEX_LIMIT
+  pub size_limit : n ≤ GRAPH_VERTEX_LIMIT
   pub u_is : is_vertex n u ≡ true
   pub v_is : is_vertex n v ≡ true
   pub differ : u ≢ v
@@ -137,23 +137,23 @@ pub record IsEnds (n : ℕ) (bs : List Blossom) (u v : ℕ) : Type 0 where
 pub ends_of : (n : ℕ) (bs : List Blossom) (e : Edge) → IsNested n bs → n ≤ GRAPH_VERTEX_LIMIT → IsEdgeWithin n e → is_loop e ≡ false → IsEnds n bs e.u e.v
 ends_of n bs e nested few within plain = record {
   nested = nested;
-  few = few;
+  size_limit = few;
   u_is = range_vertex n e.u within.u_low within.u_high;
   v_is = range_vertex n e.v within.v_low within.v_high;
   differ = eqb-false e.u e.v plain;
 }
 
 pub ends_turned : (n : ℕ) (bs : List Blossom) (u v : ℕ) → IsEnds n bs u v → IsEnds n bs v u
-ends_turned n bs u v h = record { nested = h.nested; few = h.few; u_is = h.v_is; v_is = h.u_is; differ = λ e. h.differ (sym e) }
+ends_turned n bs u v h = record { nested = h.nested; size_limit = h.size_limit; u_is = h.v_is; v_is = h.u_is; differ = λ e. h.differ (sym e) }
 
 pub chain_few : (n : ℕ) (bs : List Blossom) (u v : ℕ) → IsEnds n bs u v → length (chain_of bs u) ≤ GRAPH_VERTEX_LIMIT
 chain_few n bs u v h =
     let size : length (chain_of bs u) ≡ length (holders bs u v) + length (sharers bs u v) = ap length (chain_split n bs u v h.nested h.u_is h.v_is)
     ∙ length-append (holders bs u v) (sharers bs u v) in
-    omega (arith, size, forks_few bs u v, blossoms_few n bs h.nested, h.few)
+    omega (arith, size, forks_few bs u v, blossoms_few n bs h.nested, h.size_limit)
 
 pub holders_few : (n : ℕ) (bs : List Blossom) (u v : ℕ) → IsEnds n bs u v → length (holders bs u v) + length (holders bs v u) ≤ GRAPH_VERTEX_LIMIT
-holders_few n bs u v h = omega (arith, forks_few bs u v, blossoms_few n bs h.nested, h.few)
+holders_few n bs u v h = omega (arith, forks_few bs u v, blossoms_few n bs h.nested, h.size_limit)
 
 -- how much longer the one chain is than the other, and at how many places they differ after that
 pub counts : (n : ℕ) (bs : List Blossom) (u v k l : ℕ) → IsEnds n bs u v → k ≡ length (chain_of bs u) - length (chain_of bs v)

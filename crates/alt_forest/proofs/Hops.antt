@@ -1,19 +1,19 @@
--- A hop: from an outer node by its mate, and by that one's parent, to the next outer node above. Each outer node with a
--- mate has one, and what is read there is that hop.
+-- A grandparent link: from an outer node by its mate, and by that one's parent, to the next outer node above. Each outer node with a
+-- mate has one, and what is read there is that grandparent link.
 use Rattle.graph_theory.proofs.Common.{◌≡◌, ℕ, ◌<◌, pos, List, [], ◌∷◌, length, Some, sym, ap, ◌∙◌, arith, same_Some, IsEdgeNumber}
 use Rattle.blossom_arena.specs.declared.links.Link.{Link}
 use Rattle.blossom_arena.specs.Family.{IsNested}
 use Rattle.blossom_arena.specs.declared.label.Label.TheVariants.{Outer, Inner}
-use Rattle.alt_forest.specs.declared.hop.Hop.{Hop}
+use Rattle.alt_forest.specs.declared.grandparent.GrandparentLink.{GrandparentLink}
 use Rattle.alt_forest.specs.State.{State, IsMate, IsOutermost, IsSearchState, Joins, slack_of}
 use Rattle.alt_forest.specs.Trees.{other_node, far_end, up_edge_by, up_of, path_of, root_of}
-use Rattle.alt_forest.specs.Ways.{HasHop, IsRead}
+use Rattle.alt_forest.specs.Ways.{HasGrandparentLink, IsRead}
 use Rattle.alt_forest.proofs.Roots.{path_up, root_up}
 use Rattle.alt_forest.proofs.Walk.{deeper_differs, other_node_joins}
 
 -- from an outer node by its mate to an inner node, and by that one's parent to an outer node, by tight edges and ever
 -- nearer to the root
-pub record IsHop (s : State) (depth : ℕ → ℕ) (a : ℕ) (h : Hop) : Type 0 where
+pub record IsGrandparentLink (s : State) (depth : ℕ → ℕ) (a : ℕ) (h : GrandparentLink) : Type 0 where
   pub is : IsOutermost s a
   pub label : s.label a ≡ Outer
   pub mate : s.mate a ≡ Some h.mate
@@ -28,17 +28,18 @@ pub record IsHop (s : State) (depth : ℕ → ℕ) (a : ℕ) (h : Hop) : Type 0 
   pub up_outer : s.label h.outer ≡ Outer
   pub lowest : depth h.outer < depth h.inner
 
--- hops from one outer node up to another
-abbrev pub AreHops : State → (ℕ → ℕ) → ℕ → List Hop → ℕ → Type 0
+-- grandparent links from one outer node up to another
+abbrev pub AreHops : State → (ℕ → ℕ) → ℕ → List GrandparentLink → ℕ → Type 0
 AreHops s depth a [] top = a ≡ top
-AreHops s depth a (h ∷ hs) top = IsHop s depth a h × AreHops s depth h.outer hs top
+AreHops s depth a (h ∷ hs) top = IsGrandparentLink s depth a h × AreHops s depth h.outer hs top
 
--- the links of these hops, the last node left out
-abbrev pub links_up : ℕ → List Hop → List Link
+-- the links of these grandparent links, the last node left out
+abbrev pub links_up : ℕ → List GrandparentLink → List Link
 links_up a [] = []
 links_up a (h ∷ hs) = record { node = a; edge = h.mate } ∷ (record { node = h.inner; edge = h.parent } ∷ links_up h.outer hs)
 
-pub hop_above : (s : State) (depth : ℕ → ℕ) (a e : ℕ) → IsSearchState s depth → IsOutermost s a → s.label a ≡ Outer → s.mate a ≡ Some e → (h : Hop) × IsHop s depth a h
+pub hop_above : (s : State) (depth : ℕ → ℕ) (a e : ℕ) → IsSearchState s depth → IsOutermost s a → s.label a ≡ Outer → s.mate a ≡ Some e → (h : GrandparentLink)
+    × IsGrandparentLink s depth a h
 hop_above s depth a e st is outer has =
     let w = st.mates a e is has in let says = (st.labels a is).outer outer e w.0 has w.1 in
     let i = (st.labels w.0 w.1.outermost).inner says.0 in (
@@ -60,17 +61,17 @@ hop_above s depth a e st is outer has =
       },
     )
 
-module _ (s : State) (depth : ℕ → ℕ) (a : ℕ) (h : Hop) (is : IsHop s depth a h) where
+module _ (s : State) (depth : ℕ → ℕ) (a : ℕ) (h : GrandparentLink) (is : IsGrandparentLink s depth a h) where
   inner_is : other_node s.graph s.blossoms h.mate a ≡ h.inner
   inner_is = other_node_joins s.graph s.blossoms h.mate a h.inner is.is_mate.joins is.is_mate.different
 
   outer_is : other_node s.graph s.blossoms h.parent h.inner ≡ h.outer
   outer_is = other_node_joins s.graph s.blossoms h.parent h.inner h.outer is.joins (deeper_differs depth h.inner h.outer is.lowest)
 
-  pub has_hop : HasHop s a
+  pub has_hop : HasGrandparentLink s a
   has_hop = record { mate = h.mate; mate_is = is.is_mate.edge; mate_kept = is.mate; parent = h.parent; parent_is = is.edge; parent_kept = ap s.parent inner_is ∙ is.parent }
 
-  pub read_is : (k : Hop) → IsRead s a k → k ≡ h
+  pub read_is : (k : GrandparentLink) → IsRead s a k → k ≡ h
   read_is k r =
       let mate : k.mate ≡ h.mate = same_Some k.mate h.mate (sym r.mate ∙ is.mate) in
       let inner : k.inner ≡ h.inner = r.inner ∙ ap (λ e. other_node s.graph s.blossoms e a) mate ∙ inner_is in

@@ -2,8 +2,8 @@
 use Rattle.graph_theory.proofs.Common.{◌≡◌, ℕ, ◌<◌, true, List, [], All, length, get_or, sym, ap, ◌∙◌, subst, slice_index_or, All-get_or, edges_around}
 use Rattle.blossom_arena.specs.Family.{is_vertex}
 use Rattle.blossom_arena.proofs.Nested.{vertex_range}
-use Rattle.search_lists.specs.declared.incident_edges.IncidentEdge.{IncidentEdge}
-use Rattle.search_lists.specs.IncidentEdges.{IsIncidentEdge, numbers_of}
+use Rattle.search_tables.specs.declared.incident_edges.IncidentEdge.{IncidentEdge}
+use Rattle.search_tables.specs.IncidentEdges.{IsIncidentEdge, numbers_of}
 use Rattle.alt_forest.specs.declared.search.Search.{Search}
 use Rattle.alt_forest.specs.Searches.{HasShape}
 

@@ -4,7 +4,7 @@ use Rattle.graph_theory.proofs.Common.{nat_tests, ◌∙◌, inl, inr, other_end
 use Rattle.blossom_arena.specs.Family.{Blossom, is_vertex, outermost}
 use Rattle.blossom_arena.proofs.Ends.{u_vertex, v_vertex}
 use Rattle.alt_forest.specs.State.{Joins}
-use Rattle.search_lists.specs.IncidentEdges.{LeadsTo}
+use Rattle.search_tables.specs.IncidentEdges.{LeadsTo}
 
 -- an edge at a vertex leads to its other end
 pub leads : (g : Multigraph) (e v x : ℕ) (w : ℤ) → IsEdgeNumber g e → touches (edge_of g e) v ≡ true → x ≡ cond (eqb (edge_of g e).u v) (edge_of g e).v (edge_of g e).u

@@ -31,4 +31,4 @@ pub mod Duals
 pub mod Incidence
 pub mod EntrySteps
 pub mod Planted
-pub mod Seeds
+pub mod TreeIds

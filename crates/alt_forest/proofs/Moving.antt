@@ -5,7 +5,7 @@ use Rattle.blossom_arena.specs.declared.label.Label.TheVariants.{Out}
 use Rattle.blossom_arena.specs.Family.{Family, IsFamily, is_outermost}
 use Rattle.blossom_arena.proofs.Nested.{node_range, outermost_parts}
 use Rattle.alt_forest.specs.Searches.{label_at, put}
-use Rattle.search_lists.proofs.Updates.{put_entry}
+use Rattle.search_tables.proofs.Updates.{put_entry}
 
 pub put_motion : (ms : List Label) (a : ℕ) (l : Label) → a < length ms → label_at (slice_set ms a l) ≡ put (label_at ms) a l
 put_motion ms a l below = put_entry ms a l Out below

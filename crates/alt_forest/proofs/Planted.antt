@@ -7,8 +7,8 @@ use Rattle.blossom_arena.proofs.Lists.{length-within, vertices, holds-vertices, 
 use Rattle.blossom_arena.proofs.Nested.{outermost_parts}
 use Rattle.blossom_arena.proofs.Sets.{member_vertex, members_new, outermost_has, outermost_by_member}
 use Rattle.blossom_arena.proofs.Ends.{u_vertex, v_vertex}
-use Rattle.edge_queue.specs.declared.item.Item.TheVariants.{Edge}
-use Rattle.edge_queue.specs.Moments.{Moments, moment_of}
+use Rattle.search_heap.specs.declared.item.Item.TheVariants.{Edge}
+use Rattle.search_heap.specs.Moments.{Moments, moment_of}
 use Rattle.blossom_arena.specs.declared.label.Label.{Label}
 use Rattle.blossom_arena.specs.declared.label.Label.TheVariants.{Outer, Inner, Out}
 use Rattle.alt_forest.specs.declared.search.Search.{Search}
@@ -17,14 +17,14 @@ use Rattle.alt_forest.specs.Counts.{is_outside, outside_among}
 use Rattle.alt_forest.specs.Trees.{is_label, root_of, up_edge, up_edge_by, far_end}
 use Rattle.alt_forest.specs.Searches.{IsSound, state_of, label_at, put}
 use Rattle.alt_forest.specs.Entries.{ForMoment, IsBlossomEntered, IsQueued, IsQueuedBut, touches_any, ends_around, looks_left, outside_ends}
-use Rattle.alt_forest.specs.Standing.{AreListed, IsStanding, seed_at}
+use Rattle.alt_forest.specs.TreeNodes.{AreListed, HasTreeNodes, tree_id_at}
 use Rattle.alt_forest.proofs.Places.{nested_of}
 use Rattle.alt_forest.proofs.Relabelled.{with_labels, put_here, put_other, outer_not_inner, outer_not_out, some_not_none, planted}
 use Rattle.alt_forest.proofs.Looks.{outside_ends_fall, term_le}
 use Rattle.alt_forest.proofs.Roots.{up_or_root, ways_lead}
-use Rattle.alt_forest.proofs.Seeds.{AreTrees, roots_are_trees, tree_root}
+use Rattle.alt_forest.proofs.TreeIds.{AreTrees, roots_are_trees, tree_root}
 use Rattle.alt_forest.proofs.Walk.{other_node_joins}
-use Rattle.search_lists.proofs.Updates.{put_both}
+use Rattle.search_tables.proofs.Updates.{put_both}
 
 -- an edge with no end among the vertices of an outermost node leads past that node
 pub past_node : (s : State) (v e : ℕ) → IsGraph s.graph → IsNested s.graph.vertices s.blossoms → IsEdgeNumber s.graph e
@@ -146,23 +146,23 @@ module _ (s : State) (depth : ℕ → ℕ) (v : ℕ) (nested : IsNested s.graph.
   grown_root x outer in_it = tree_root grown depth nested (planted s depth v exposed out st) said said_trees x outer in_it
 
 -- what its calls leave, at once
-pub whole : (s l a t : Search) → l ≡ record s { labels = l.labels } → a ≡ record l { arena = record l.arena { motions = a.arena.motions }; standing = a.standing }
+pub whole : (s l a t : Search) → l ≡ record s { labels = l.labels } → a ≡ record l { arena = record l.arena { motions = a.arena.motions }; tree_nodes = a.tree_nodes }
     → t ≡ record a { scanned = t.scanned }
-    → t ≡ record s { arena = record s.arena { motions = t.arena.motions }; labels = t.labels; standing = t.standing; scanned = t.scanned }
+    → t ≡ record s { arena = record s.arena { motions = t.arena.motions }; labels = t.labels; tree_nodes = t.tree_nodes; scanned = t.scanned }
 whole s l a t one two three = parts ∙ ap (λ (x : Search). let y : Search = record s {
   arena = record s.arena { motions = x.arena.motions };
   labels = x.labels;
-  standing = x.standing;
+  tree_nodes = x.tree_nodes;
   scanned = x.scanned;
 } in y) (sym parts)
   where
-    parts : t ≡ record s { arena = record s.arena { motions = a.arena.motions }; labels = l.labels; standing = a.standing; scanned = t.scanned }
+    parts : t ≡ record s { arena = record s.arena { motions = a.arena.motions }; labels = l.labels; tree_nodes = a.tree_nodes; scanned = t.scanned }
     parts = three
         ∙ ap (λ (x : Search). let y : Search = record x { scanned = t.scanned } in y) two
-        ∙ ap (λ (x : Search). let y : Search = record x { arena = record x.arena { motions = a.arena.motions }; standing = a.standing; scanned = t.scanned } in y) one
+        ∙ ap (λ (x : Search). let y : Search = record x { arena = record x.arena { motions = a.arena.motions }; tree_nodes = a.tree_nodes; scanned = t.scanned } in y) one
 
 -- the search, whose labels, list of nodes and list of vertices are new
-module _ (s t : Search) (v : ℕ) (is : t ≡ record s { arena = record s.arena { motions = t.arena.motions }; labels = t.labels; standing = t.standing; scanned = t.scanned })
+module _ (s t : Search) (v : ℕ) (is : t ≡ record s { arena = record s.arena { motions = t.arena.motions }; labels = t.labels; tree_nodes = t.tree_nodes; scanned = t.scanned })
     (labels : label_at t.labels.items ≡ put (label_at s.labels.items) v Outer) (sound : IsSound s) (exposed : IsExposed (state_of s) v) (out : label_at s.labels.items v ≡ Out) where
   pub planted_state : state_of t ≡ with_labels (state_of s) (put (label_at s.labels.items) v Outer)
   planted_state = ap state_of is ∙ ap (with_labels (state_of s)) labels
@@ -190,16 +190,16 @@ module _ (s t : Search) (v : ℕ) (is : t ≡ record s { arena = record s.arena 
     tree = λ no. outer_not_out (sym (put_here (label_at s.labels.items) v Outer) ∙ sym (ap (λ f. f v) labels) ∙ no v exposed.0);
   })
 
-  pub planted_standing : (w : ℕ) → is_vertex s.graph.vertices w ≡ true → outermost s.arena.blossoms w ≡ v → AreListed s.graph.vertices t.standing.nodes t.standing.seeds
-      → seed_at t.standing.seeds ≡ put (seed_at s.standing.seeds) v (Some w)
-      → label_at t.arena.motions ≡ put (label_at s.arena.motions) v (label_at t.labels.items v) → IsStanding s
-      → IsStanding t
-  planted_standing w vertex within listed seeds motions h = subst IsStanding (sym is) (record {
+  pub planted_tree_nodes : (w : ℕ) → is_vertex s.graph.vertices w ≡ true → outermost s.arena.blossoms w ≡ v → AreListed s.graph.vertices t.tree_nodes.nodes t.tree_nodes.tree_ids
+      → tree_id_at t.tree_nodes.tree_ids ≡ put (tree_id_at s.tree_nodes.tree_ids) v (Some w)
+      → label_at t.arena.motions ≡ put (label_at s.arena.motions) v (label_at t.labels.items v) → HasTreeNodes s
+      → HasTreeNodes t
+  planted_tree_nodes w vertex within listed tree_ids motions h = subst HasTreeNodes (sym is) (record {
     listed = listed;
     trees = λ x outer ne. ⊎_elim
         (λ (here : x ≡ v). (
           w,
-          ap (λ (f : ℕ → Option ℕ). f x) seeds ∙ grind (arith, nat_tests),
+          ap (λ (f : ℕ → Option ℕ). f x) tree_ids ∙ grind (arith, nat_tests),
           record { vertex = vertex; root = within ∙ sym (root_now x outer ne ∙ grind (arith, nat_tests)) },
         ))
         (λ (other : x ≢ v). let r = h.trees x outer (was x other ne) in (
@@ -212,7 +212,7 @@ module _ (s t : Search) (v : ℕ) (is : t ≡ record s { arena = record s.arena 
         let one = root_now x x_is x_in in let other = root_now y y_is y_in in
         ⊎_elim
         (λ (x_here : x ≡ v). ⊎_elim
-        (λ (y_here : y ≡ v). ap (seed_at t.standing.seeds) (x_here ∙ sym y_here))
+        (λ (y_here : y ≡ v). ap (tree_id_at t.tree_nodes.tree_ids) (x_here ∙ sym y_here))
         (λ (y_other : y ≢ v). absurd (away y y_other y_is y_in (grind (arith, nat_tests))))
         (cases_eq y v))
         (λ (x_other : x ≢ v). ⊎_elim
@@ -246,5 +246,5 @@ module _ (s t : Search) (v : ℕ) (is : t ≡ record s { arena = record s.arena 
       away : (x : ℕ) → x ≢ v → IsOutermost old x → label_at t.labels.items x ≢ Out → root_of old x ≢ v
       away x other is ne q = outer_not_out (sym (ways_lead old depth x nested sound.state is (was x other ne)).root.outer ∙ ap (label_at s.labels.items) q ∙ out)
 
-      kept : (x : ℕ) → x ≢ v → seed_at t.standing.seeds x ≡ seed_at s.standing.seeds x
-      kept x other = ap (λ (f : ℕ → Option ℕ). f x) seeds ∙ put_other (seed_at s.standing.seeds) v (Some w) x other
+      kept : (x : ℕ) → x ≢ v → tree_id_at t.tree_nodes.tree_ids x ≡ tree_id_at s.tree_nodes.tree_ids x
+      kept x other = ap (λ (f : ℕ → Option ℕ). f x) tree_ids ∙ put_other (tree_id_at s.tree_nodes.tree_ids) v (Some w) x other

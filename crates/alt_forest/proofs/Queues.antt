@@ -1,14 +1,14 @@
 -- Moments of a queue after one of them is set or taken away, and how many edges have one.
 use Rattle.graph_theory.proofs.Common.{◌≡◌, ◌≢◌, ℕ, zero, suc, ◌+◌, ◌-◌, ◌≤◌, List, [], ◌∷◌, length, get_or, set, Option, Some, None, ap, ◌∙◌, arith}
 use Rattle.graph_theory.proofs.Common.{ℤ, IsEdgeNumber}
-use Rattle.edge_queue.specs.declared.item.Item.{Item}
-use Rattle.edge_queue.specs.declared.item.Item.TheVariants.{Edge, Blossom}
-use Rattle.edge_queue.specs.Moments.{Moments, moment_of, with_moment, IsItem}
-use Rattle.edge_queue.proofs.Maps.{has_what_is_set, others_stay, places_stay}
+use Rattle.search_heap.specs.declared.item.Item.{Item}
+use Rattle.search_heap.specs.declared.item.Item.TheVariants.{Edge, Blossom}
+use Rattle.search_heap.specs.Moments.{Moments, moment_of, with_moment, IsItem}
+use Rattle.search_heap.proofs.Maps.{has_what_is_set, others_stay, places_stay}
 use Rattle.alt_forest.specs.declared.search.Search.{Search}
 use Rattle.alt_forest.specs.Entries.{entered_among, entry_count}
 use Rattle.alt_forest.specs.Searches.{HasShape, IsSound}
-use Rattle.alt_forest.specs.Standing.{IsStanding}
+use Rattle.alt_forest.specs.TreeNodes.{HasTreeNodes}
 use Rattle.alt_forest.specs.Trees.{node_limit}
 
 -- what is an edge or a node of the graph has a place in the queue
@@ -69,5 +69,5 @@ pub sound_set : (s : Search) (item : Item) (m : Option ℤ) → IsSound s → Is
 sound_set s item m h = let same = places_stay s.queue item m in sound_with s (with_moment s.queue item m) same.0 same.1 h
 
 -- what is listed has nothing to do with the queue
-pub standing_with : (s : Search) (q : Moments) → IsStanding s → IsStanding (record s { queue = q })
-standing_with s q h = assumption
+pub tree_nodes_with : (s : Search) (q : Moments) → HasTreeNodes s → HasTreeNodes (record s { queue = q })
+tree_nodes_with s q h = assumption

@@ -7,8 +7,8 @@ use Rattle.alt_forest.specs.State.{State, IsOutermost, IsMate, IsInner, FitsLabe
 use Rattle.alt_forest.specs.Trees.{IsRoot}
 use Rattle.alt_forest.specs.Searches.{put}
 use Rattle.alt_forest.proofs.Tight.{tight_rings}
-pub use Rattle.search_lists.proofs.Kept.{some_not_none}
-pub use Rattle.search_lists.proofs.Updates.{put_here, put_other}
+pub use Rattle.search_tables.proofs.Kept.{some_not_none}
+pub use Rattle.search_tables.proofs.Updates.{put_here, put_other}
 
 abbrev pub with_labels : State → (ℕ → Label) → State
 with_labels s label = record s { label = label }

@@ -128,11 +128,11 @@ route_at route (y ∷ ys) (suc k) x r e = omega (arith, route_at route ys k x r.
 
 -- a call of an iterator after k others, which it has answered
 pub record IsCounted (zs xs : List ℕ) (k : ℕ) : Type 0 where
-  pub rest : xs ≡ drop k zs
+  pub left : xs ≡ drop k zs
   pub so_far : k + length xs ≡ length zs
 
 pub counted_on : (zs xs ys : List ℕ) (k x : ℕ) → xs ≡ x ∷ ys → IsCounted zs xs k → IsCounted zs ys (k + 1)
-counted_on zs xs ys k x e c = record { rest = drop_more (Some x) zs xs ys k e c.rest; so_far = omega (arith, c.so_far, ap length e) }
+counted_on zs xs ys k x e c = record { left = drop_more (Some x) zs xs ys k e c.left; so_far = omega (arith, c.so_far, ap length e) }
 
 pub counted_next : (o : Option ℕ) (zs xs ys : List ℕ) (k n : ℕ) → MatchOption o ((xs ≡ []) × (ys ≡ [])) (λ y. xs ≡ y ∷ ys) → xs ≡ drop k zs → k ≡ n
     → IfSome o (λ x. (n ≡ n) × IsAt zs n x)

@@ -11,9 +11,9 @@ use Rattle.graph_theory.specs.Graph.{Multigraph, IsEdgeNumber, edge_of, edges_ar
 use Rattle.graph_theory.specs.Parts.{holds}
 use Rattle.graph_theory.specs.Sums.{sum_to}
 use Rattle.blossom_arena.specs.Family.{names_of, outermost}
-use Rattle.edge_queue.specs.declared.item.Item.{Item}
-use Rattle.edge_queue.specs.declared.item.Item.TheVariants.{Edge as OfEdge, Blossom as OfBlossom}
-use Rattle.edge_queue.specs.Moments.{Moments, moment_of}
+use Rattle.search_heap.specs.declared.item.Item.{Item}
+use Rattle.search_heap.specs.declared.item.Item.TheVariants.{Edge as OfEdge, Blossom as OfBlossom}
+use Rattle.search_heap.specs.Moments.{Moments, moment_of}
 use Rattle.blossom_arena.specs.declared.label.Label.TheVariants.{Outer, Inner, Out}
 use Rattle.alt_forest.specs.declared.search.Search.{Search}
 use Rattle.alt_forest.specs.State.{State, IsOutermost, Joins, slack_of}
@@ -55,7 +55,7 @@ pub record IsQueued (s : Search) : Type 0 where
   pub edges : (e : ℕ) → IsEdgeNumber s.graph e → IsEntered (state_of s) s.clock s.queue e
   pub blossoms : (b : ℕ) → holds (names_of s.arena.blossoms) b ≡ true
       → IsBlossomEntered (state_of s) s.clock s.queue b
-  pub still : HasNoTree (state_of s) → s.clock ≡ pos 0
+  pub idle_clock : HasNoTree (state_of s) → s.clock ≡ pos 0
   pub empty : HasNoTree (state_of s) → (item : Item) → moment_of s.queue item ≡ None
 
 -- some end of e is one of these vertices

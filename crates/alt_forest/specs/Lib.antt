@@ -12,4 +12,4 @@ pub mod Laws
 pub mod Ways
 pub mod Circuits
 pub mod Entries
-pub mod Standing
+pub mod TreeNodes

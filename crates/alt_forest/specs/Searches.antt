@@ -6,14 +6,14 @@ use Rattle.graph_theory.specs.Limits.{IsWithinLimits}
 use Rattle.graph_theory.specs.Graph.{Multigraph, IsGraph, IsWeight, HasNoLoop, edge_of}
 use Rattle.graph_theory.specs.Graph.{IsEdgeNumber}
 pub use Rattle.blossom_arena.specs.Changes.{label_at}
-pub use Rattle.search_lists.specs.Updates.{put}
+pub use Rattle.search_tables.specs.Updates.{put}
 use Rattle.blossom_arena.specs.Family.{dual_at, IsFamily}
-use Rattle.edge_queue.specs.Moments.{Moments}
+use Rattle.search_heap.specs.Moments.{Moments}
 use Rattle.alt_forest.specs.declared.weights.Weights.{Weights}
 use Rattle.alt_forest.specs.declared.weights.Weights.TheVariants.{Zero, Given}
 use Rattle.alt_forest.specs.declared.search.Search.{Search}
-use Rattle.search_lists.specs.declared.incident_edges.IncidentEdge.{IncidentEdge}
-use Rattle.search_lists.specs.IncidentEdges.{AreIncidentEdges}
+use Rattle.search_tables.specs.declared.incident_edges.IncidentEdge.{IncidentEdge}
+use Rattle.search_tables.specs.IncidentEdges.{AreIncidentEdges}
 use Rattle.alt_forest.specs.State.{State, IsSearchState}
 use Rattle.alt_forest.specs.Trees.{node_limit}
 
@@ -38,18 +38,18 @@ state_of s = record {
 -- a graph within the limits, without loops
 pub record IsSearchGraph (g : Multigraph) : Type 0 where
   pub graph : IsGraph g
-  pub plain : HasNoLoop g
+  pub loopless : HasNoLoop g
   pub limits : IsWithinLimits (record { vertices = g.vertices; edges = length g.edges })
 
 -- the edges by vertex are those of the graph, the queue has a place for each edge and each node,
--- seeds have one for each node and one before them, and the list of vertices to look from has room
--- for all
+-- tree ids have one for each node and one before them, and the list of vertices to look from has
+-- room for all
 pub record HasRoom (g : Multigraph) (incidence : List (List IncidentEdge)) (queue : Moments)
-    (seeds_len scanned_room : ℕ) : Type 0 where
+    (tree_ids_len scanned_room : ℕ) : Type 0 where
   pub index : AreIncidentEdges g incidence
   pub edges : length queue.edges ≡ length g.edges
   pub nodes : length queue.blossoms ≡ node_limit g.vertices
-  pub seeds : seeds_len ≡ node_limit g.vertices + 1
+  pub tree_ids : tree_ids_len ≡ node_limit g.vertices + 1
   pub scanned : g.vertices ≤ scanned_room
 
 -- the copy is a graph within the limits, the arena is a family on its vertices, each list has a
@@ -62,7 +62,8 @@ pub record HasShape (s : Search) : Type 0 where
   pub parents : vec_len s.parents ≡ node_limit s.graph.vertices + 1
   pub mates : vec_len s.mates ≡ node_limit s.graph.vertices + 1
   pub circuit : s.graph.vertices ≤ vec_capacity s.circuit
-  pub room : HasRoom s.graph s.incidence s.queue (length s.standing.seeds) (vec_capacity s.scanned)
+  pub room : HasRoom s.graph s.incidence s.queue (length s.tree_nodes.tree_ids)
+      (vec_capacity s.scanned)
 
 -- the search has its shape and is in the state of a search
 pub record IsSound (s : Search) : Type 0 where

@@ -7,12 +7,12 @@ ghost use Rattle.graph_theory.specs.Graph.{IsEdgeNumber, edge_of, edges_around, 
 ghost use Rattle.graph_theory.specs.Parts.{holds};
 ghost use Rattle.graph_theory.specs.declared.limits.TheConstants.{NUMBER_LIMIT, GRAPH_VERTEX_LIMIT};
 ghost use Rattle.blossom_arena.specs.Family.{is_node, is_vertex, members_of, names_of, outermost};
-ghost use Rattle.edge_queue.specs.declared.item.Item.TheVariants.{Edge as OfEdge};
-ghost use Rattle.edge_queue.specs.declared.item.Item.TheVariants.{Blossom as OfBlossom};
-ghost use Rattle.edge_queue.specs.Moments.{IsItem, moment_of, with_moment};
+ghost use Rattle.search_heap.specs.declared.item.Item.TheVariants.{Edge as OfEdge};
+ghost use Rattle.search_heap.specs.declared.item.Item.TheVariants.{Blossom as OfBlossom};
+ghost use Rattle.search_heap.specs.Moments.{IsItem, moment_of, with_moment};
 ghost use Rattle.blossom_arena.specs.declared.label.Label.TheVariants.{Inner};
 ghost use Rattle.alt_forest.specs.State.{IsOutermost, slack_of};
-ghost use Rattle.search_lists.specs.IncidentEdges.{LeadsTo, IsIncidentEdge};
+ghost use Rattle.search_tables.specs.IncidentEdges.{LeadsTo, IsIncidentEdge};
 ghost use Rattle.alt_forest.specs.Ends.{IsNear};
 ghost use Rattle.alt_forest.specs.Searches.{HasShape, IsSound, state_of, label_at};
 ghost use Rattle.alt_forest.specs.Entries.{NeedsMoment, IsEntered, IsBlossomEntered, IsQueued};
@@ -23,9 +23,9 @@ use crate::search::Search;
 use crate::slack::doubled;
 use base_types::{Steps, VertexId};
 use blossom_arena::{Label, Members, NodeId};
-use edge_queue::{EdgeQueue, Item};
 use graph_theory::{GRAPH_VERTEX_LIMIT, NUMBER_LIMIT};
-use search_lists::IncidentEdge;
+use search_heap::{EdgeQueue, Item};
+use search_tables::IncidentEdge;
 use std::sync::ledger::Ledger;
 use weighted_graph::Graph;
 
@@ -37,7 +37,7 @@ struct Near {
     vertex: VertexId,
     node: NodeId,
     label: Label,
-    seed: u32,
+    tree_id: u32,
     dual_sum: i128,
 }
 
@@ -109,22 +109,22 @@ fn moment_for(
 }
 
 /// The vertex that is kept for a node, or 0.
-fn seed_number(search: &Search, node: NodeId) -> u32 {
-    match search.seed(node) {
+fn tree_id_number(search: &Search, node: NodeId) -> u32 {
+    match search.tree_id(node) {
         Some(v) => v.number(),
         None => 0,
     }
 }
 
 /// Whether an edge to a node with this label comes up before others of the same moment: one that
-/// joins two trees does, since it ends both. Only one between outer nodes can, so at others no seed
-/// is read.
+/// joins two trees does, since it ends both. Only one between outer nodes can, so at others no tree
+/// id is read.
 fn comes_early(search: &Search, near: &Near, node: NodeId, label: Label) -> bool {
     if near.label != Label::Outer || label != Label::Outer {
         return false;
     }
-    let seed = seed_number(search, node);
-    near.seed != 0 && seed != 0 && near.seed != seed
+    let tree_id = tree_id_number(search, node);
+    near.tree_id != 0 && tree_id != 0 && near.tree_id != tree_id
 }
 
 /// Gives an item this moment, and lets it come up before others of the same moment if it is early.
@@ -146,7 +146,7 @@ fn enter_edge(search: &mut Search, near: &Near, incident: &IncidentEdge)
     requires high { search.old.clock ≤ℤ NUMBER_LIMIT }
     requires near { IsNear (state_of search.old) near.now }
     requires incident { IsIncidentEdge search.old.graph near.now.vertex incident.now }
-    ensures rest { search.new ≡ record search.old { queue = search.new.queue } }
+    ensures frame { search.new ≡ record search.old { queue = search.new.queue } }
     ensures sound { IsSound search.new }
     ensures entered { IsEntered (state_of search.old) search.old.clock search.new.queue
         incident.now.edge }
@@ -176,7 +176,7 @@ fn near_of(search: &Search, vertex: VertexId, node: NodeId, label: Label) -> Nea
         vertex,
         node,
         label,
-        seed: seed_number(search, node),
+        tree_id: tree_id_number(search, node),
         dual_sum: search.arena.dual_sum(vertex),
     }
 }
@@ -188,7 +188,7 @@ fn enter_around<L: Ledger>(search: &mut Search, v: VertexId, steps: &mut Steps<L
     requires low { pos 0 ≤ℤ search.old.clock }
     requires high { search.old.clock ≤ℤ NUMBER_LIMIT }
     requires vertex { is_vertex search.old.graph.vertices v ≡ true }
-    ensures rest { search.new ≡ record search.old { queue = search.new.queue } }
+    ensures frame { search.new ≡ record search.old { queue = search.new.queue } }
     ensures sound { IsSound search.new }
     ensures entered { (e : ℕ) → IsEdgeNumber search.old.graph e
         → touches (edge_of search.old.graph e) v ≡ true
@@ -197,7 +197,7 @@ fn enter_around<L: Ledger>(search: &mut Search, v: VertexId, steps: &mut Steps<L
         → touches (edge_of search.old.graph e) v ≡ false
         → moment_of search.new.queue (OfEdge e) ≡ moment_of search.old.queue (OfEdge e) }
     ensures blossoms { search.new.queue.blossoms ≡ search.old.queue.blossoms }
-    ensures looks { steps.new ≡ steps.old + ends_looked (state_of search.old) (v ∷ []) }
+    ensures inspections { steps.new ≡ steps.old + ends_looked (state_of search.old) (v ∷ []) }
     ensures count { entry_count search.new.queue + steps.old ≤ entry_count search.old.queue
         + steps.new }
 {
@@ -232,20 +232,20 @@ impl Search {
     /// look at most. It takes no memory.
     pub fn enter_scanned<L: Ledger>(&mut self, graph: &Graph, steps: &mut Steps<L>)
         requires sound { IsSound self.old }
-        requires same { graph.now ≡ self.old.graph }
+        requires same_graph { graph.now ≡ self.old.graph }
         requires vertices { All (λ v. is_vertex graph.now.vertices v ≡ true)
             self.old.scanned.items }
-        requires queued { IsQueuedBut self.old self.old.scanned.items }
-        ensures rest { self.new ≡ record self.old { queue = self.new.queue } }
+        requires event_times { IsQueuedBut self.old self.old.scanned.items }
+        ensures frame { self.new ≡ record self.old { queue = self.new.queue } }
         ensures sound { IsSound self.new }
 
         // Each edge whose event can come has its event time in the queue; each end of an edge that
         // comes into an outer node costs one inspection at most.
-        ensures queued { IsQueued self.new }
-        ensures looks { steps.new ≤ steps.old + ends_around graph.now self.old.scanned.items }
+        ensures event_times { IsQueued self.new }
+        ensures inspections { steps.new ≤ steps.old + ends_around graph.now self.old.scanned.items }
 
         // Exactly one inspection for each end at a listed vertex that lies in no inner node.
-        ensures around { steps.new ≡ steps.old
+        ensures edge_ends { steps.new ≡ steps.old
             + ends_looked (state_of self.old) self.old.scanned.items }
 
         // It changes the event time of no other edge and of no blossom.
@@ -271,7 +271,7 @@ impl Search {
         ensures scanned { self.new.scanned.items ≡ self.old.scanned.items
             ++ members_of self.old.arena.blossoms node }
         ensures capacity { vec_capacity self.new.scanned ≡ vec_capacity self.old.scanned }
-        ensures rest { self.new ≡ record self.old { scanned = self.new.scanned } }
+        ensures frame { self.new ≡ record self.old { scanned = self.new.scanned } }
     {
         append(&mut self.scanned, self.arena.members(node));
     }
@@ -282,7 +282,7 @@ impl Search {
         requires low { pos 0 ≤ℤ self.old.clock }
         requires high { self.old.clock ≤ℤ NUMBER_LIMIT }
         requires outermost { IsOutermost (state_of self.old) node }
-        ensures rest { self.new ≡ record self.old { queue = self.new.queue } }
+        ensures frame { self.new ≡ record self.old { queue = self.new.queue } }
         ensures sound { IsSound self.new }
         ensures entered { holds (names_of self.old.arena.blossoms) node ≡ true
             → IsBlossomEntered (state_of self.old) self.old.clock self.new.queue node }

@@ -1,12 +1,11 @@
 //! The state of a search for a perfect matching: alternating trees over the outermost nodes of an
 //! arena. It depends on `base_types`, `graph_theory`, `weighted_graph`, `blossom_arena`,
-//! `edge_queue` and `search_lists`.
+//! `search_heap` and `search_tables`.
 #![tactic(auto)]
 
 mod entries;
-mod hop;
+mod grandparent;
 mod law;
-mod listing;
 mod meet;
 mod motions;
 mod path;
@@ -14,15 +13,16 @@ mod search;
 mod slack;
 mod starts;
 mod tables;
+mod tree_lists;
 mod weights;
 
 pub use blossom_arena::Label;
-pub use edge_queue::{EdgeQueue, Item};
-pub use hop::Hop;
+pub use grandparent::GrandparentLink;
 pub use law::laws;
 pub use path::RootPath;
 pub use search::Search;
-pub use search_lists::{IncidentEdge, IncidentEdges, Standing, room_for};
+pub use search_heap::{EdgeQueue, Item};
+pub use search_tables::{IncidentEdge, IncidentEdges, TreeNodes, room_for};
 pub use slack::doubled;
 pub use tables::{set_edge, set_label};
 pub use weights::Weights;

@@ -9,16 +9,16 @@ ghost use Rattle.alt_forest.specs.Trees.{IsRoot};
 ghost use Rattle.alt_forest.specs.Counts.{exposed_count, tree_count, is_outside};
 ghost use Rattle.alt_forest.specs.Entries.{IsQueued, ends_around, entry_count, looks_left};
 ghost use Rattle.alt_forest.specs.Entries.{outside_ends};
-ghost use Rattle.alt_forest.specs.Standing.{IsStanding};
+ghost use Rattle.alt_forest.specs.TreeNodes.{HasTreeNodes};
 
-use crate::listing::vertex_within;
 use crate::starts::{SearchLists, SearchParts, copied, give_duals, search_parts};
 use crate::tables::{label_of, set_label, wipe_edges, wipe_labels};
+use crate::tree_lists::vertex_within;
 use crate::weights::Weights;
 use base_types::{EdgeId, OutOfMemory, Steps, VertexId};
 use blossom_arena::{Arena, Label, Link, NodeId};
-use edge_queue::EdgeQueue;
-use search_lists::{IncidentEdges, Standing};
+use search_heap::EdgeQueue;
+use search_tables::{IncidentEdges, TreeNodes};
 use std::alloc::Global;
 use std::sync::ledger::Ledger;
 use weighted_graph::Graph;
@@ -29,10 +29,10 @@ use weighted_graph::Graph;
 /// duals. The ends of its mates and parents are read from `graph`, which counts none. `labels`,
 /// `parents` and `mates` stand by node number, with place 0 unused; a parent or a mate is given by
 /// the edge to it. `circuit` has room for n links. `graph` is the graph that the search was made
-/// for, or a copy of it, and `incidence` its edges by vertex, which no call changes. `queue` has the
-/// moment of each event that can come, by `clock`, the sum of the changes of duals since no tree
-/// stood. `standing` lists the nodes in trees by tree, each with a vertex of the root of its tree,
-/// and `scanned` has the vertices whose edges are looked at after a step.
+/// for, or a copy of it, and `incidence` its edges by vertex, which no call changes. `queue` has
+/// the moment of each event that can come, by `clock`, the sum of the changes of duals since no
+/// tree stood. `tree_nodes` lists the nodes in trees by tree, each with a vertex of the root of its
+/// tree, and `scanned` has the vertices whose edges are looked at after a step.
 #[derive(Drop)]
 pub struct Search {
     pub arena: Arena,
@@ -46,7 +46,7 @@ pub struct Search {
     pub queue: EdgeQueue,
     pub incidence: IncidentEdges,
     pub clock: i64,
-    pub standing: Standing,
+    pub tree_nodes: TreeNodes,
     pub scanned: Vec<VertexId>,
 }
 
@@ -57,7 +57,7 @@ fn label_root(search: &mut Search, v: NodeId)
     requires out { label_at search.old.labels.items v ≡ Out }
     ensures labels { label_at search.new.labels.items
         ≡ put (label_at search.old.labels.items) v Outer }
-    ensures rest { search.new ≡ record search.old { labels = search.new.labels } }
+    ensures frame { search.new ≡ record search.old { labels = search.new.labels } }
     ensures roots { (a : ℕ) → IsRoot (state_of search.new) a
         ↔ (IsRoot (state_of search.old) a ⊎ (a ≡ v)) }
     ensures trees { tree_count (state_of search.new) ≡ tree_count (state_of search.old) + 1 }
@@ -87,8 +87,8 @@ impl Search {
         ensures start { IfOk result (λ s. s.start ≡ pos 0) }
         ensures clock { IfOk result (λ s. s.clock ≡ pos 0) }
         ensures sound { IfOk result IsSound }
-        ensures queued { IfOk result IsQueued }
-        ensures standing { IfOk result IsStanding }
+        ensures event_times { IfOk result IsQueued }
+        ensures listed { IfOk result HasTreeNodes }
     {
         let copy = copied(alloc, graph)?;
         Search::of(alloc, copy)
@@ -109,15 +109,15 @@ impl Search {
         ensures start { IfOk result (λ s. s.start ≡ pos 0) }
         ensures clock { IfOk result (λ s. s.clock ≡ pos 0) }
         ensures sound { IfOk result IsSound }
-        ensures queued { IfOk result IsQueued }
-        ensures standing { IfOk result IsStanding }
+        ensures event_times { IfOk result IsQueued }
+        ensures listed { IfOk result HasTreeNodes }
     {
         let arena = Arena::new(alloc, graph.vertices())?;
         let SearchParts { kept, queue, lists } = search_parts(alloc, graph, arena.node_limit())?;
         let SearchLists {
             nodes,
             room,
-            standing,
+            tree_nodes,
         } = lists;
         Ok(Search {
             arena,
@@ -131,7 +131,7 @@ impl Search {
             queue,
             incidence: kept.incidence,
             clock: 0,
-            standing,
+            tree_nodes,
             scanned: room.scanned,
         })
     }
@@ -157,8 +157,8 @@ impl Search {
         ensures incidence { self.new.incidence ≡ self.old.incidence }
         ensures clock { self.new.clock ≡ pos 0 }
         ensures sound { IsSound self.new }
-        ensures queued { IsQueued self.new }
-        ensures standing { IsStanding self.new }
+        ensures event_times { IsQueued self.new }
+        ensures listed { HasTreeNodes self.new }
     {
         let _ = graph;
         self.begin(weights, start);
@@ -185,8 +185,8 @@ impl Search {
         ensures incidence { self.new.incidence ≡ self.old.incidence }
         ensures clock { self.new.clock ≡ pos 0 }
         ensures sound { IsSound self.new }
-        ensures queued { IsQueued self.new }
-        ensures standing { IsStanding self.new }
+        ensures event_times { IsQueued self.new }
+        ensures listed { HasTreeNodes self.new }
     {
         self.arena.clear();
         give_duals(&mut self.arena, start);
@@ -197,23 +197,23 @@ impl Search {
         self.start = start;
         self.queue.clear();
         self.clock = 0;
-        self.dismiss();
+        self.remove_trees();
     }
 
     /// Makes an exposed node the root of a tree of its own (chapter 24), and notes its vertices,
     /// and no others, as those whose edges are to be looked at. It takes no memory.
     pub fn make_root(&mut self, v: NodeId)
         requires sound { IsSound self.old }
-        requires standing { IsStanding self.old }
+        requires listed { HasTreeNodes self.old }
         requires exposed { IsExposed (state_of self.old) v }
         requires out { label_at self.old.labels.items v ≡ Out }
         ensures labels { label_at self.new.labels.items
             ≡ put (label_at self.old.labels.items) v Outer }
         ensures scanned { self.new.scanned.items ≡ members_of self.old.arena.blossoms v }
-        ensures rest { self.new ≡ record self.old {
+        ensures frame { self.new ≡ record self.old {
           arena = record self.old.arena { motions = self.new.arena.motions };
           labels = self.new.labels;
-          standing = self.new.standing;
+          tree_nodes = self.new.tree_nodes;
           scanned = self.new.scanned;
         } }
         ensures roots { (a : ℕ) → IsRoot (state_of self.new) a
@@ -221,15 +221,15 @@ impl Search {
         ensures trees { tree_count (state_of self.new) ≡ tree_count (state_of self.old) + 1 }
         ensures exposed { exposed_count (state_of self.new) ≡ exposed_count (state_of self.old) }
         ensures sound { IsSound self.new }
-        ensures standing { IsStanding self.new }
+        ensures listed { HasTreeNodes self.new }
         ensures inside { (w : ℕ) → is_outside (state_of self.new) w ≡ true
             → is_outside (state_of self.old) w ≡ true }
         ensures ends { outside_ends (state_of self.new)
             + ends_around self.old.graph self.new.scanned.items ≤ outside_ends (state_of self.old) }
     {
         label_root(self, v);
-        let seed = vertex_within(&self.arena, v);
-        self.stand(v, seed);
+        let tree_id = vertex_within(&self.arena, v);
+        self.stand(v, tree_id);
         self.scanned.clear();
         self.scan(v);
     }
@@ -238,20 +238,20 @@ impl Search {
     /// its vertices, which get their moments. It takes no memory.
     pub fn plant<L: Ledger>(&mut self, graph: &Graph, v: NodeId, steps: &mut Steps<L>)
         requires sound { IsSound self.old }
-        requires queued { IsQueued self.old }
-        requires standing { IsStanding self.old }
-        requires same { graph.now ≡ self.old.graph }
+        requires event_times { IsQueued self.old }
+        requires listed { HasTreeNodes self.old }
+        requires same_graph { graph.now ≡ self.old.graph }
         requires exposed { IsExposed (state_of self.old) v }
         requires out { label_at self.old.labels.items v ≡ Out }
 
         // Makes an exposed node the root of a tree of its own.
         ensures labels { label_at self.new.labels.items
             ≡ put (label_at self.old.labels.items) v Outer }
-        ensures rest { self.new ≡ record self.old {
+        ensures frame { self.new ≡ record self.old {
           arena = record self.old.arena { motions = self.new.arena.motions };
           labels = self.new.labels;
           queue = self.new.queue;
-          standing = self.new.standing;
+          tree_nodes = self.new.tree_nodes;
           scanned = self.new.scanned;
         } }
         ensures roots { (a : ℕ) → IsRoot (state_of self.new) a
@@ -259,16 +259,16 @@ impl Search {
         ensures trees { tree_count (state_of self.new) ≡ tree_count (state_of self.old) + 1 }
         ensures exposed { exposed_count (state_of self.new) ≡ exposed_count (state_of self.old) }
         ensures sound { IsSound self.new }
-        ensures queued { IsQueued self.new }
-        ensures standing { IsStanding self.new }
+        ensures event_times { IsQueued self.new }
+        ensures listed { HasTreeNodes self.new }
         ensures inside { (w : ℕ) → is_outside (state_of self.new) w ≡ true
             → is_outside (state_of self.old) w ≡ true }
 
         // It inspects no more edge ends than there are at the vertices that come into an outer
         // node.
-        ensures looks { steps.new + looks_left (state_of self.new)
+        ensures inspections { steps.new + looks_left (state_of self.new)
             ≤ steps.old + looks_left (state_of self.old) }
-        ensures around { steps.new + outside_ends (state_of self.new)
+        ensures edge_ends { steps.new + outside_ends (state_of self.new)
             ≤ steps.old + outside_ends (state_of self.old) }
         ensures count { entry_count self.new.queue + steps.old ≤ entry_count self.old.queue
             + steps.new }
@@ -289,22 +289,22 @@ impl Search {
     pub fn clear(&mut self)
         requires sound { IsSound self.old }
         ensures labels { (a : ℕ) → label_at self.new.labels.items a ≡ Out }
-        ensures rest { self.new ≡ record self.old {
+        ensures frame { self.new ≡ record self.old {
           arena = record self.old.arena { motions = self.new.arena.motions };
           labels = self.new.labels;
           queue = self.new.queue;
           clock = pos 0;
-          standing = self.new.standing;
+          tree_nodes = self.new.tree_nodes;
         } }
         ensures trees { tree_count (state_of self.new) ≡ 0 }
         ensures exposed { exposed_count (state_of self.new) ≡ exposed_count (state_of self.old) }
         ensures sound { IsSound self.new }
-        ensures queued { IsQueued self.new }
-        ensures standing { IsStanding self.new }
+        ensures event_times { IsQueued self.new }
+        ensures listed { HasTreeNodes self.new }
     {
         wipe_labels(&mut self.labels);
         self.queue.clear();
         self.clock = 0;
-        self.dismiss();
+        self.remove_trees();
     }
 }

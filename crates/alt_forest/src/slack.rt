@@ -47,7 +47,7 @@ fn shortened(chain: Chain<'_>, nodes: u32) -> Chain<'_>
 
 /// How many places come before the first one where two chains of one length have the same node.
 fn apart(left: Chain<'_>, right: Chain<'_>) -> u32
-    requires few { length left < 2 ^ 32 }
+    requires size_limit { length left < 2 ^ 32 }
     requires level { length left ≡ length right }
     ensures { result ≡ apart left.entry right.entry }
 {
@@ -78,7 +78,7 @@ fn dual_or_zero(arena: &Arena, node: Option<NodeId>) -> i64
 fn total(arena: &Arena, chain: Chain<'_>, nodes: u32) -> i128
     requires nodes { AllByRecursion (λ a. is_node arena.now.vertex_count arena.now.blossoms a
         ≡ true) chain }
-    requires few { nodes ≤ GRAPH_VERTEX_LIMIT }
+    requires size_limit { nodes ≤ GRAPH_VERTEX_LIMIT }
     ensures total { result ≡ total_of (dual_at arena.now.duals) (take nodes chain.entry) }
     ensures low { neg_ℤ (NUMBER_LIMIT *ℤ pos nodes) ≤ℤ result }
     ensures high { result ≤ℤ (NUMBER_LIMIT *ℤ pos nodes) }
@@ -95,10 +95,10 @@ fn total(arena: &Arena, chain: Chain<'_>, nodes: u32) -> i128
 /// holds both comes in the two chains at one place from their ends, and so do all nodes after it.
 fn holder_counts(arena: &Arena, edge: &Edge) -> (u32, u32)
     requires ends { IsEdgeWithin arena.now.vertex_count edge.now }
-    requires plain { is_loop edge.now ≡ false }
+    requires loopless { is_loop edge.now ≡ false }
     ensures u { result.0 ≡ length (holders arena.now.blossoms edge.now.u edge.now.v) }
     ensures v { result.1 ≡ length (holders arena.now.blossoms edge.now.v edge.now.u) }
-    ensures few { result.0 + result.1 ≤ GRAPH_VERTEX_LIMIT }
+    ensures size_limit { result.0 + result.1 ≤ GRAPH_VERTEX_LIMIT }
 {
     let left = count(arena.chain(edge.u));
     let right = count(arena.chain(edge.v));
@@ -115,7 +115,7 @@ fn holder_counts(arena: &Arena, edge: &Edge) -> (u32, u32)
 /// two ends.
 fn duals_along(arena: &Arena, edge: &Edge) -> i128
     requires ends { IsEdgeWithin arena.now.vertex_count edge.now }
-    requires plain { is_loop edge.now ≡ false }
+    requires loopless { is_loop edge.now ≡ false }
     ensures duals_across { result ≡ duals_across (dual_at arena.now.duals) arena.now.blossoms
         edge.now }
     ensures low { neg_ℤ (NUMBER_LIMIT *ℤ pos GRAPH_VERTEX_LIMIT) ≤ℤ result }
@@ -129,7 +129,7 @@ fn duals_along(arena: &Arena, edge: &Edge) -> i128
 /// both ends, all that hold either.
 fn duals_across(arena: &Arena, edge: &Edge) -> i128
     requires ends { IsEdgeWithin arena.now.vertex_count edge.now }
-    requires plain { is_loop edge.now ≡ false }
+    requires loopless { is_loop edge.now ≡ false }
     ensures duals_across { result ≡ duals_across (dual_at arena.now.duals) arena.now.blossoms
         edge.now }
     ensures low { neg_ℤ (NUMBER_LIMIT *ℤ pos GRAPH_VERTEX_LIMIT) ≤ℤ result }
@@ -162,7 +162,7 @@ impl Search {
     pub fn slack_by(&self, edge: &Edge) -> i128
         requires shape { HasShape self.now }
         requires ends { IsEdgeWithin self.now.graph.vertices edge.now }
-        requires plain { is_loop edge.now ≡ false }
+        requires loopless { is_loop edge.now ≡ false }
         requires weight { IsWeight edge.now.w }
 
         // The same slack if the ends and the weight are known; it counts no step.

@@ -4,22 +4,22 @@ ghost use Rattle.graph_theory.specs.declared.limits.TheConstants.{GRAPH_VERTEX_L
 ghost use Rattle.graph_theory.specs.Graph.{IsGraph, IsWeight};
 ghost use Rattle.blossom_arena.specs.Family.{IsFamily, empty_family, is_vertex, dual_at};
 ghost use Rattle.blossom_arena.specs.declared.label.Label.TheVariants.{Out};
-ghost use Rattle.search_lists.specs.IncidentEdges.{AreIncidentEdges};
+ghost use Rattle.search_tables.specs.IncidentEdges.{AreIncidentEdges};
 ghost use Rattle.alt_forest.specs.Blank.{AreBlank};
-ghost use Rattle.edge_queue.specs.Moments.{no_moments};
+ghost use Rattle.search_heap.specs.Moments.{no_moments};
 ghost use Rattle.alt_forest.specs.Searches.{IsSearchGraph, edge_in, label_at};
 
 use base_types::{EdgeId, OutOfMemory, VertexId};
 use blossom_arena::{Arena, Label, Link, NodeId};
-use edge_queue::EdgeQueue;
 use graph_theory::GRAPH_VERTEX_LIMIT;
-use search_lists::{IncidentEdges, Standing, room_for};
+use search_heap::EdgeQueue;
+use search_tables::{IncidentEdges, TreeNodes, room_for};
 use std::alloc::Global;
 use weighted_graph::Graph;
 
 /// The same graph once more.
 pub(crate) fn copied(alloc: Global, graph: &Graph) -> Result<Graph, OutOfMemory>
-    requires few { IsSearchGraph graph.now }
+    requires size_limit { IsSearchGraph graph.now }
     ensures { IfOk result (λ copy. copy ≡ graph.now) }
 {
     let mut copy = Graph::new(alloc, graph.vertices());
@@ -86,7 +86,7 @@ fn room_lists(alloc: Global, vertices: usize) -> Result<RoomLists, OutOfMemory>
 pub(crate) struct SearchLists {
     pub(crate) nodes: NodeLists,
     pub(crate) room: RoomLists,
-    pub(crate) standing: Standing,
+    pub(crate) tree_nodes: TreeNodes,
 }
 
 /// The lists of a search with nodes up to a number and so many vertices, if no node is in a tree or
@@ -96,11 +96,11 @@ fn search_lists(alloc: Global, limit: u32, vertices: usize) -> Result<SearchList
 {
     let room = room_lists(alloc, vertices)?;
     let nodes = node_lists(alloc, limit as usize + 1)?;
-    let standing = Standing::new(alloc, limit)?;
+    let tree_nodes = TreeNodes::new(alloc, limit)?;
     Ok(SearchLists {
         nodes,
         room,
-        standing,
+        tree_nodes,
     })
 }
 
@@ -113,7 +113,7 @@ pub(crate) struct KeptGraph {
 
 /// A graph, and its edges by vertex.
 fn kept_graph(alloc: Global, graph: Graph) -> Result<KeptGraph, OutOfMemory>
-    requires few { IsSearchGraph graph }
+    requires size_limit { IsSearchGraph graph }
     ensures graph { IfOk result (λ kept. kept.graph ≡ graph) }
     ensures incidence { IfOk result (λ kept. AreIncidentEdges graph kept.incidence) }
 {
@@ -149,14 +149,14 @@ pub(crate) fn search_parts(
 
 /// Gives each vertex of an arena with no blossom and all duals 0 the same dual.
 pub(crate) fn give_duals(arena: &mut Arena, start: i64)
-    requires few { arena.old.vertex_count ≤ GRAPH_VERTEX_LIMIT }
+    requires size_limit { arena.old.vertex_count ≤ GRAPH_VERTEX_LIMIT }
     requires empty { arena.old ≡ empty_family arena.old.vertex_count }
     requires start { IsWeight start }
     ensures count { arena.new.vertex_count ≡ arena.old.vertex_count }
     ensures blossoms { arena.new.blossoms ≡ [] }
     ensures duals { (v : ℕ) → is_vertex arena.old.vertex_count v ≡ true
         → dual_at arena.new.duals v ≡ start }
-    ensures good { IsFamily arena.new }
+    ensures is_family { IsFamily arena.new }
 {
     for number in 0..arena.vertex_count() {
         arena.add_dual(NodeId::new(number + 1), i128::from(start));

@@ -1,5 +1,5 @@
 //! Alternating paths of even length from the vertices that maximum matchings miss. It depends on
-//! `mb_base`, `graph_theory`, `outer_sets`, `weighted_graph` and `mb_problem`. It promises that
+//! `mb_base`, `graph_theory`, `gallai_theory`, `weighted_graph` and `mb_problem`. It promises that
 //! `is_even_path` says exactly whether edges are such a path. A `Forest` finds paths quickly, and
 //! promises nothing of them: whoever uses one tests it.
 #![tactic(auto)]

@@ -1,5 +1,5 @@
 ghost use Rattle.std.specs.Prelude.{◌≡◌, ◌↔◌, ◌≤◌, length, All, IsTrue, IfOk};
-ghost use Rattle.outer_sets.specs.Decomposition.{Alternates, IsEvenPath};
+ghost use Rattle.gallai_theory.specs.Decomposition.{Alternates, IsEvenPath};
 ghost use Rattle.mb_problem.specs.Degrees.{AreDegrees};
 ghost use Rattle.mb_problem.specs.Network.{IsNetwork, vertices, graph_of};
 

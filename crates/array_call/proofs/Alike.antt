@@ -2,14 +2,15 @@
 use Rattle.certificates.proofs.Common.{◌≡◌, ◌||◌, ℕ, ℤ, pos, Bool, true, false, not, List, [], ◌∷◌, ◌++◌, length, map, Option, None, Some, IfSome, refl, sym, ap, ap₂, ◌∙◌, subst}
 use Rattle.certificates.proofs.Common.{append-nil, arith, and_parts, list_all, length-map, has_any, ascends, at_most_one, admits, is_formed}
 use Rattle.certificates.proofs.Common.{is_walk, is_barrier, is_odd_part, is_split_part, is_never, proves_best, body_of}
-use Rattle.certificates.proofs.Common.{are_duals, asks_conservative, exclusion_of, form_of, proof_of, IsDocument, Kind, AnswerForm, BestProof, Duals, LighterBarrier, OuterPaths, Exclusion}
+use Rattle.certificates.proofs.Common.{are_duals, asks_conservative, obstruction_of, form_of, proof_of, IsDocument, Kind, AnswerForm, BestProof, Duals, LighterBarrier, OuterPaths}
+use Rattle.certificates.proofs.Common.{Obstruction}
 use Rattle.certificates.proofs.Common.{Document, DocStatus, Optimal, Infeasible, NonConservative, Part, CountLine, WalkLine, MemberLine, PathLine, SetLine, DualLine, counts_of, paths_ascend}
 use Rattle.doc_format.proofs.PartLaws.{AllParts, part_by_part, no_items}
 use Rattle.array_call.specs.Layout.{status_number, start_number, walk_numbers, answer_numbers, listed_members, excluding, leads, lists, set_list, all_items, offsets, head}
 use Rattle.array_call.specs.Sheets.{Sheet, HasEdges}
 use Rattle.array_call.specs.Documents.{sheet_for}
 use Rattle.mb_problem.specs.declared.kind.AnswerForm.TheVariants as form
-use Rattle.mb_problem.specs.declared.kind.Exclusion.TheVariants as exclusion
+use Rattle.mb_problem.specs.declared.kind.Obstruction.TheVariants as obstruction
 use Rattle.mb_problem.specs.declared.kind.Kind.TheVariants as kinds
 use Rattle.doc_format.specs.declared.part.Part.TheVariants as part
 use Rattle.doc_format.specs.declared.letter.Letter.TheVariants as letter
@@ -270,27 +271,27 @@ set-alone kind d status is =
       paths = no_items p part.Even d.paths (λ r. refl) l.paths;
     }
 
-excluding-ascends : (e : Exclusion) (p : Part → Bool) (d : Document) → AllParts p (body_of d) → ((u : MemberLine) → p (part.Barrier u) ≡ is_barrier e) →
+excluding-ascends : (e : Obstruction) (p : Part → Bool) (d : Document) → AllParts p (body_of d) → ((u : MemberLine) → p (part.Barrier u) ≡ is_barrier e) →
     ((u : MemberLine) → p (part.Odd u) ≡ is_odd_part e) → ((u : MemberLine) → p (part.Split u) ≡ is_split_part e) → ascends (excluding d) ≡ true
-excluding-ascends exclusion.Barrier p d l barrier odd split =
+excluding-ascends obstruction.Barrier p d l barrier odd split =
     ap ascends (excluding-barrier d (no-one p part.Odd d.odd odd l.odd) (no-one p part.Split d.split split l.split))
     ∙ members-ascend part.Barrier d.barrier (λ u. refl) (forms d).barrier
-excluding-ascends exclusion.OddPart p d l barrier odd split =
+excluding-ascends obstruction.OddPart p d l barrier odd split =
     ap ascends (excluding-odd d (no-one p part.Barrier d.barrier barrier l.barrier) (no-one p part.Split d.split split l.split))
     ∙ members-ascend part.Odd d.odd (λ u. refl) (forms d).odd
-excluding-ascends exclusion.SplitPart p d l barrier odd split =
+excluding-ascends obstruction.SplitPart p d l barrier odd split =
     ap ascends (excluding-split d (no-one p part.Barrier d.barrier barrier l.barrier) (no-one p part.Odd d.odd odd l.odd))
     ∙ members-ascend part.Split d.split (λ u. refl) (forms d).split
-excluding-ascends exclusion.Never p d l barrier odd split =
+excluding-ascends obstruction.Never p d l barrier odd split =
     ap ascends (excluding-split d (no-one p part.Barrier d.barrier barrier l.barrier) (no-one p part.Odd d.odd odd l.odd))
     ∙ members-ascend part.Split d.split (λ u. refl) (forms d).split
 
 pub set-ascends : (kind : Kind) (d : Document) → d.status ≡ Infeasible → d.kind ≡ kind → ascends (excluding d) ≡ true
 set-ascends kind d status is =
-    excluding-ascends (exclusion_of kind) (admits Infeasible kind) d (letters Infeasible kind d status is) (λ u. refl) (λ u. refl) (λ u. refl)
+    excluding-ascends (obstruction_of kind) (admits Infeasible kind) d (letters Infeasible kind d status is) (λ u. refl) (λ u. refl) (λ u. refl)
 
-pub has-exclusion : (kind : Kind) (d : Document) → d.status ≡ Infeasible → d.kind ≡ kind → not (is_never (exclusion_of kind)) ≡ true
-has-exclusion kind d status is = (as-formed Infeasible kind d status is).headed
+pub has-obstruction : (kind : Kind) (d : Document) → d.status ≡ Infeasible → d.kind ≡ kind → not (is_never (obstruction_of kind)) ≡ true
+has-obstruction kind d status is = (as-formed Infeasible kind d status is).headed
 
 answer-none : (f : AnswerForm) (m : ℕ) (d b : Document) → HasSetAlone d → HasSetAlone b → answer_numbers f m d ≡ answer_numbers f m b
 answer-none form.Counts m d b one other = ap (λ (xs : List CountLine). map pos (counts_of xs m)) (one.counts ∙ sym other.counts)

@@ -1,7 +1,7 @@
 -- An answer without its certificate has at most 9 + 2m numbers.
 use Rattle.certificates.proofs.Common.{◌≡◌, ℕ, ◌+◌, ◌*◌, ◌≤◌, pos, ℤ, List, [], ◌∷◌, ◌++◌, length, true, Option, None, Some, IfSome, refl, ap, ◌∙◌, subst, arith, length-append}
 use Rattle.certificates.proofs.Common.{length-map, length-map-range_with_len, tabled-length, Kind, AnswerForm, form_of, Document, WalkLine, count_of, counts_of}
-use Rattle.kind_answers.specs.Settled.{Settles}
+use Rattle.solve_answers.specs.Settled.{Settles}
 use Rattle.array_call.specs.declared.calling.ArrayStatus.{ArrayStatus}
 use Rattle.array_call.specs.Arrays.{Arrays, edge_at, edge_count, network_of}
 use Rattle.array_call.specs.Layout.{answer_numbers, walk_numbers, start_number, head}

@@ -1,7 +1,7 @@
 -- What is laid of a document that was solved in brief.
 use Rattle.certificates.proofs.Common.{◌≡◌, ℕ, pos, ℤ, List, [], ◌∷◌, ◌++◌, length, map, Bool, true, false, Option, refl, ap, ◌∙◌, Kind, AnswerForm, form_of}
 use Rattle.certificates.proofs.Common.{Network, Document, DocStatus, CountLine, WalkLine, counts_of}
-use Rattle.kind_answers.specs.Settled.{Settles, SettlesFor}
+use Rattle.solve_answers.specs.Settled.{Settles, SettlesFor}
 use Rattle.array_call.specs.declared.calling.ArrayStatus.{ArrayStatus}
 use Rattle.array_call.specs.Arrays.{Arrays, edge_count}
 use Rattle.array_call.specs.Layout.{answer_numbers, walk_numbers, start_number, head, numbers_for}

@@ -1,17 +1,17 @@
 -- The document that is built of parts has them if any document has, and none has them if none is built.
 use Rattle.certificates.proofs.Common.{◌≡◌, ◌≢◌, ℕ, ℤ, pos, ◌≤ℤ◌, true, false, not, List, length, map, All, IfSome, true≢false, refl, sym, ap, ◌∙◌, subst, ascends, are_duals, counts_of}
-use Rattle.certificates.proofs.Common.{asks_conservative, exclusion_of, form_of, proof_of, is_never, Kind, AnswerForm, LighterBarrier, OuterPaths, only-bottleneck, only-gallai, Document}
+use Rattle.certificates.proofs.Common.{asks_conservative, obstruction_of, form_of, proof_of, is_never, Kind, AnswerForm, LighterBarrier, OuterPaths, only-bottleneck, only-gallai, Document}
 use Rattle.certificates.proofs.Common.{Optimal, Infeasible, NonConservative, arith, ints, All-map, length-map, length-map-range_with_len, count_of}
-use Rattle.certificates.proofs.Common.{◌++◌, append-nil, Body, body_of, Exclusion, MemberLine}
-use Rattle.kind_answers.specs.Excluding.{set_body}
+use Rattle.certificates.proofs.Common.{◌++◌, append-nil, Body, body_of, Obstruction, MemberLine}
+use Rattle.solve_answers.specs.Excluding.{set_body}
 use Rattle.array_call.specs.Layout.{status_number, start_number, walk_numbers, answer_numbers, listed_members, excluding, leads, lists, set_list}
 use Rattle.array_call.specs.Sheets.{Sheet, IsAnswerOn, number_at}
 use Rattle.array_call.specs.Documents.{IsSheetOf, AreNoDocument, IsMadeOf, HasLists}
 use Rattle.array_call.proofs.ListsBack.{lists-count}
-use Rattle.array_call.proofs.Alike.{alike-by-duals, alike-by-barrier, alike-by-paths, alike-excluded, alike-walk, barrier-alone, paths-alone, set-ascends, has-exclusion, asks-for}
+use Rattle.array_call.proofs.Alike.{alike-by-duals, alike-by-barrier, alike-by-paths, alike-excluded, alike-walk, barrier-alone, paths-alone, set-ascends, has-obstruction, asks-for}
 use Rattle.array_call.proofs.Alike.{as-optimal, as-infeasible, as-nonconservative, a-status}
 use Rattle.mb_problem.specs.declared.kind.AnswerForm.TheVariants as form
-use Rattle.mb_problem.specs.declared.kind.Exclusion.TheVariants as exclusion
+use Rattle.mb_problem.specs.declared.kind.Obstruction.TheVariants as obstruction
 use Rattle.mb_problem.specs.declared.kind.Kind.TheVariants as kinds
 
 unascending : (xs ys : List ℤ) → ascends xs ≡ false → xs ≡ ys → ascends ys ≡ true → ⊥
@@ -144,9 +144,9 @@ made-by-paths kind m s b proof answer status is-b status-b weight counts starts 
 
 -- ---- infeasible
 
-pub never-excluded-so : (kind : Kind) (m : ℕ) (s : Sheet) → number_at s.head 0 ≡ pos 2 → is_never (exclusion_of kind) ≡ true → AreNoDocument kind m s
+pub never-excluded-so : (kind : Kind) (m : ℕ) (s : Sheet) → number_at s.head 0 ≡ pos 2 → is_never (obstruction_of kind) ≡ true → AreNoDocument kind m s
 never-excluded-so kind m s status never = λ d h.
-    true≢false (sym (has-exclusion kind d (infeasible-is kind m s d h status) h.same_kind) ∙ ap not never)
+    true≢false (sym (has-obstruction kind d (infeasible-is kind m s d h status) h.same_kind) ∙ ap not never)
 
 pub falls-excluded : (kind : Kind) (m : ℕ) (s : Sheet) → number_at s.head 0 ≡ pos 2 → ascends s.excluding ≡ false → AreNoDocument kind m s
 falls-excluded kind m s status falls = λ d h.
@@ -159,14 +159,14 @@ made-excluded kind m s b status is-b status-b members = λ d h.
 abbrev members_in : Body → List ℤ
 members_in b = listed_members b.barrier ++ (listed_members b.odd ++ listed_members b.split)
 
-members-of-set : (e : Exclusion) (u : MemberLine) → is_never e ≡ false → members_in (set_body e u) ≡ u.members
-members-of-set exclusion.Barrier u some = append-nil u.members
-members-of-set exclusion.OddPart u some = append-nil u.members
-members-of-set exclusion.SplitPart u some = refl
-members-of-set exclusion.Never u some = absurd cc
+members-of-set : (e : Obstruction) (u : MemberLine) → is_never e ≡ false → members_in (set_body e u) ≡ u.members
+members-of-set obstruction.Barrier u some = append-nil u.members
+members-of-set obstruction.OddPart u some = append-nil u.members
+members-of-set obstruction.SplitPart u some = refl
+members-of-set obstruction.Never u some = absurd cc
 
-pub members-stated : (kind : Kind) (u : MemberLine) (b : Document) → is_never (exclusion_of kind) ≡ false → body_of b ≡ set_body (exclusion_of kind) u → excluding b ≡ u.members
-members-stated kind u b some body = ap members_in body ∙ members-of-set (exclusion_of kind) u some
+pub members-stated : (kind : Kind) (u : MemberLine) (b : Document) → is_never (obstruction_of kind) ≡ false → body_of b ≡ set_body (obstruction_of kind) u → excluding b ≡ u.members
+members-stated kind u b some body = ap members_in body ∙ members-of-set (obstruction_of kind) u some
 
 -- ---- weights that aren't conservative
 

@@ -1,6 +1,6 @@
 -- Faultless arrays are an instance of the kind.
 use Rattle.certificates.proofs.Common.{◌≡◌, ℕ, ◌+◌, ◌-◌, ◌%◌, ◌<◌, ◌≤◌, Bool, true, false, cond, eqb, ltb, ◌||◌, ℤ, pos, negsuc, ◌≤ℤ◌, int_lt}
-use Rattle.certificates.proofs.Common.{All, None, Some, refl, sym, ap, subst, ◌∙◌, arith, rules, inl, inr, cases_lt, eqb-true, ltb-false, or_parts, get_or_past, Kind, Need}
+use Rattle.certificates.proofs.Common.{All, None, Some, refl, sym, ap, subst, ◌∙◌, arith, rules, inl, inr, cases_lt, eqb-true, ltb-false, or_parts, get_or_past, Kind, Precondition}
 use Rattle.certificates.proofs.Common.{Unrestricted, WeightsFromZero, Ends, EndsAndWeightsFromZero, InstanceEdge, need_of, VERTEX_LIMIT, EDGE_LIMIT, VALUE_LIMIT, vertices, value_of}
 use Rattle.certificates.proofs.Common.{IsInstanceEdge, IsNetwork, HasWeightsFromZero, HasEnds, HasWeightsBy, HasEndsBy, IsReady, tabled, tabled-length, tabled-at, All-tabled}
 use Rattle.array_call.specs.declared.rule.ArrayFault.{ArrayFault}
@@ -90,13 +90,13 @@ module _ (kind : Kind) (a : Arrays) where
   ends_there : ends_fault kind a ≡ None → HasEnds (network_of kind a)
   ends_there e = two_ends (eqb-true (odd_values kind a) 2 (counted (eqb (odd_values kind a) 2) (fault PathEnds 0) e))
 
-  weights_there : (need : Need) → need_fault need kind a ≡ None → HasWeightsBy need (network_of kind a)
+  weights_there : (need : Precondition) → need_fault need kind a ≡ None → HasWeightsBy need (network_of kind a)
   weights_there Unrestricted e = tt
   weights_there WeightsFromZero e = from_zero kind a e
   weights_there Ends e = tt
   weights_there EndsAndWeightsFromZero e = from_zero kind a (neither (negatives_fault a) (ends_fault kind a) e).0
 
-  needed_ends : (need : Need) → need_fault need kind a ≡ None → HasEndsBy need (network_of kind a)
+  needed_ends : (need : Precondition) → need_fault need kind a ≡ None → HasEndsBy need (network_of kind a)
   needed_ends Unrestricted e = tt
   needed_ends WeightsFromZero e = tt
   needed_ends Ends e = ends_there e

@@ -1,6 +1,7 @@
 -- The items of the sets of a document: no reference is below 0.
 use Rattle.certificates.proofs.Common.{◌≡◌, ℕ, ◌+◌, ◌<◌, true, List, [], ◌∷◌, ◌++◌, length, map, take, get_or, All, refl, ap, sym, subst, ◌∙◌}
-use Rattle.certificates.proofs.Common.{map-append, take_more, list_all, and_parts, and_from, All-nil, All-cons, All-head, All-tail, All-push, Document, SetItem, SetLine, is_item, is_formed, body_of}
+use Rattle.certificates.proofs.Common.{map-append, take_more, list_all, and_parts, and_from, All-nil, All-cons, All-head, All-tail, All-push, Document, SetItem, SetLine, is_item, is_formed}
+use Rattle.certificates.proofs.Common.{body_of}
 use Rattle.doc_format.proofs.PartLaws.{part_by_part}
 use Rattle.array_call.specs.Sheets.{HasItems}
 use Rattle.doc_format.specs.declared.part.Part.TheVariants as part

@@ -7,7 +7,7 @@ use Rattle.mb_problem.specs.Kinds.{form_of, searches_of}
 use Rattle.mb_problem.specs.Size.{size_of}
 use Rattle.doc_format.specs.declared.document.Document.{Document}
 use Rattle.mwpm_engine.specs.Solutions.{most_steps}
-use Rattle.kind_answers.specs.Settled.{Settles, SettlesFor}
+use Rattle.solve_answers.specs.Settled.{Settles, SettlesFor}
 use Rattle.array_call.specs.declared.error.ArrayError.{ArrayError}
 use Rattle.array_call.specs.declared.error.ArrayError.TheVariants.{Malformed, TooLarge, OutOfMemory}
 use Rattle.array_call.specs.declared.rule.ArrayFault.{ArrayFault}

@@ -9,9 +9,10 @@ use Rattle.std.specs.Option.{option_map, option_or}
 use Rattle.graph_theory.specs.declared.limits.TheConstants.{WEIGHT_LIMIT}
 use Rattle.graph_theory.specs.Sums.{sum_to}
 use Rattle.mb_problem.specs.declared.kind.Kind.{Kind}
-use Rattle.mb_problem.specs.declared.kind.Need.{Need}
-use Rattle.mb_problem.specs.declared.kind.Need.TheVariants.{Unrestricted, WeightsFromZero, Ends}
-use Rattle.mb_problem.specs.declared.kind.Need.TheVariants.{EndsAndWeightsFromZero}
+use Rattle.mb_problem.specs.declared.kind.Precondition.{Precondition}
+use Rattle.mb_problem.specs.declared.kind.Precondition.TheVariants.{Unrestricted, WeightsFromZero}
+use Rattle.mb_problem.specs.declared.kind.Precondition.TheVariants.{Ends}
+use Rattle.mb_problem.specs.declared.kind.Precondition.TheVariants.{EndsAndWeightsFromZero}
 use Rattle.mb_problem.specs.declared.limits.TheConstants.{VERTEX_LIMIT, EDGE_LIMIT, VALUE_LIMIT}
 use Rattle.mb_problem.specs.Kinds.{need_of}
 use Rattle.certificates.specs.Ranges.{is_between}
@@ -101,7 +102,7 @@ odd_values kind a = sum_to (λ k. value_at kind a k % 2) a.vertices
 abbrev pub ends_fault : Kind → Arrays → Option ArrayFault
 ends_fault kind a = if odd_values kind a == 2 then None else Some (fault PathEnds 0)
 
-abbrev pub need_fault : Need → Kind → Arrays → Option ArrayFault
+abbrev pub need_fault : Precondition → Kind → Arrays → Option ArrayFault
 need_fault Unrestricted kind a = None
 need_fault WeightsFromZero kind a = negatives_fault a
 need_fault Ends kind a = ends_fault kind a

@@ -21,9 +21,9 @@ use doc_format::{
     CountLine, DocStatus, Document, DualLine, Head, MemberLine, PathLine, SetItem, SetLine,
     WalkLine, is_ascending,
 };
-use kind_answers::infeasible_by;
 use mb_base::{OutOfMemory, Sequence};
-use mb_problem::{AnswerForm, BestProof, Exclusion, Kind};
+use mb_problem::{AnswerForm, BestProof, Kind, Obstruction};
+use solve_answers::infeasible_by;
 use std::alloc::Global;
 
 /// Whether no number is negative.
@@ -36,7 +36,7 @@ fn are_natural(numbers: &[i64]) -> bool
 
 /// Puts the line of the edge at a place, from 0, at the end where the edge is used.
 fn push_used(lines: &mut Vec<CountLine>, counts: &[i64], k: usize) -> Result<(), OutOfMemory>
-    requires there { k < length counts.now }
+    requires in_range { k < length counts.now }
     requires natural { All (λ c. pos 0 ≤ℤ c) counts.now }
     ensures { OnOk result (lines.new.items ≡ (if is_used (numbers counts.now) (k + 1)
         then lines.old.items ++ line_at (numbers counts.now) (k + 1) ∷ []
@@ -329,7 +329,7 @@ fn infeasible(alloc: Global, kind: Kind, parts: &Parts<'_>) -> Result<Option<Doc
     ensures counts { IfOk result (λ o. IfSome o (λ d. d.counts ≡ [])) }
     ensures found { (m : ℕ) → IfOk result (IsFound kind m (sheet_of parts.now)) }
 {
-    if kind.exclusion() == Exclusion::Never {
+    if kind.obstruction() == Obstruction::Never {
         return Ok(None);
     }
     if !is_ascending(parts.excluding) {

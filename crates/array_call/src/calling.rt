@@ -1,5 +1,5 @@
 ghost use Rattle.std.specs.Prelude.{◌≡◌, ◌≤◌, [], ◌∷◌, length, pos, true, IfOk};
-ghost use Rattle.kind_answers.specs.Settled.{SettlesFor};
+ghost use Rattle.solve_answers.specs.Settled.{SettlesFor};
 ghost use Rattle.array_call.specs.Arrays.{arrays_of, edge_count, network_of};
 ghost use Rattle.array_call.specs.Answers.{IsAnswerable, counted, fault_numbers, size_numbers};
 ghost use Rattle.array_call.specs.Answers.{size_without_proof};

@@ -97,7 +97,7 @@ fn verdict_on(
     requires kind { document.now.kind ≡ kind }
     requires same { instance.now ≡ network_of kind (arrays_of arrays.now) }
     requires limits { IsWithinLimits (size_of kind instance.now) }
-    requires ready { IsReady kind instance.now }
+    requires well_formed { IsReady kind instance.now }
     ensures { IfOk result (HasVerdict kind (arrays_of arrays.now) numbers.now) }
 {
     let verdict = judge(alloc, instance, kind, document)?;
@@ -117,7 +117,7 @@ fn judged(
 ) -> Result<Option<DocRule>, OutOfMemory>
     requires same { instance.now ≡ network_of kind (arrays_of arrays.now) }
     requires limits { IsWithinLimits (size_of kind instance.now) }
-    requires ready { IsReady kind instance.now }
+    requires well_formed { IsReady kind instance.now }
     ensures { IfOk result (HasVerdict kind (arrays_of arrays.now) numbers.now) }
 {
     let Some(document) = document_in(alloc, kind, arrays.from.len(), numbers)? else {
@@ -138,7 +138,7 @@ fn check_instance(
 ) -> Result<Option<DocRule>, ArrayError>
     requires same { instance.now ≡ network_of kind (arrays_of arrays.now) }
     requires faultless { IsFaultless kind (arrays_of arrays.now) }
-    requires ready { IsReady kind instance.now }
+    requires well_formed { IsReady kind instance.now }
     ensures { Checks kind (arrays_of arrays.now) numbers.now result }
 {
     let (vertices, edges) = gadget_size(instance, kind);
@@ -159,8 +159,9 @@ pub fn check_arrays(
     numbers: &[i64],
 ) -> Result<Option<DocRule>, ArrayError>
     // Numbers are accepted only if they are those of a document that proves what it states of
-    // exactly this instance; else the first rule that it breaks, `DocForm` exactly if no document of
-    // the kind has the numbers, a fault of the arrays, a size past a limit, or that memory ran out.
+    // exactly this instance; else the first rule that it breaks, `DocForm` exactly if no document
+    // of the kind has the numbers, a fault of the arrays, a size past a limit, or that memory ran
+    // out.
     ensures { Checks kind (arrays_of arrays.now) numbers.now result }
 {
     let instance = instance_of(alloc, kind, arrays)?;

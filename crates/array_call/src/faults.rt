@@ -12,7 +12,7 @@ ghost use Rattle.array_call.specs.Faults.{kind_fault, array_fault};
 use crate::arrays::InstanceArrays;
 use crate::rule::{ArrayFault, ArrayRule};
 use graph_theory::WEIGHT_LIMIT;
-use mb_problem::{EDGE_LIMIT, Kind, Need, VALUE_LIMIT, VERTEX_LIMIT};
+use mb_problem::{EDGE_LIMIT, Kind, Precondition, VALUE_LIMIT, VERTEX_LIMIT};
 
 fn fault(rule: ArrayRule, place: u32) -> ArrayFault
     ensures { result ≡ fault rule place }
@@ -149,7 +149,7 @@ fn edge_rule(n: u32, u: u32, v: u32, weight: i64, capacity: i64) -> Option<Array
 
 /// The rule that the edge at a place breaks.
 fn edge_fault(arrays: &InstanceArrays<'_>, k: usize) -> Option<ArrayRule>
-    requires there { k < length arrays.now.from.now }
+    requires in_range { k < length arrays.now.from.now }
     requires sized { IsSized (arrays_of arrays.now) }
     ensures { result ≡ edge_fault (arrays_of arrays.now) k }
 {
@@ -260,10 +260,10 @@ fn kind_fault(kind: Kind, arrays: &InstanceArrays<'_>) -> Option<ArrayFault>
     ensures { result ≡ kind_fault kind (arrays_of arrays.now) }
 {
     match kind.needs() {
-        Need::Unrestricted => None,
-        Need::WeightsFromZero => negatives_fault(arrays),
-        Need::Ends => ends_fault(kind, arrays),
-        Need::EndsAndWeightsFromZero => {
+        Precondition::Unrestricted => None,
+        Precondition::WeightsFromZero => negatives_fault(arrays),
+        Precondition::Ends => ends_fault(kind, arrays),
+        Precondition::EndsAndWeightsFromZero => {
             let ends = ends_fault(kind, arrays);
             negatives_fault(arrays).or(ends)
         }

@@ -28,7 +28,7 @@ fn capacity_from(mark: i64) -> Option<u32>
 
 /// The edge at a place, from 0, which breaks no rule.
 fn edge_at(arrays: &InstanceArrays<'_>, k: usize) -> InstanceEdge
-    requires there { k < length arrays.now.from.now }
+    requires in_range { k < length arrays.now.from.now }
     requires sized { IsSized (arrays_of arrays.now) }
     requires faultless { edge_fault (arrays_of arrays.now) k ≡ None }
     ensures edge { result ≡ edge_at (arrays_of arrays.now) k }
@@ -101,7 +101,7 @@ fn build(alloc: Global, kind: Kind, arrays: &InstanceArrays<'_>) -> Result<Insta
     requires sized { IsSized (arrays_of arrays.now) }
     requires faultless { IsFaultless kind (arrays_of arrays.now) }
     ensures instance { IfOk result (λ i. i ≡ network_of kind (arrays_of arrays.now)) }
-    ensures ready { IfOk result (IsReady kind) }
+    ensures well_formed { IfOk result (IsReady kind) }
     ensures network { IfOk result IsNetwork }
 {
     let edges = edges_of(alloc, arrays)?;
@@ -121,7 +121,7 @@ pub fn instance_of(
 ) -> Result<Instance, ArrayError>
     // The instance that arrays are, or their first fault in a stated order, or that memory ran out.
     ensures made { Makes kind (arrays_of arrays.now) result }
-    ensures ready { IfOk result (IsReady kind) }
+    ensures well_formed { IfOk result (IsReady kind) }
     ensures network { IfOk result IsNetwork }
 {
     if let Some(fault) = array_fault(kind, arrays) {

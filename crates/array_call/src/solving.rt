@@ -1,7 +1,7 @@
 ghost use Rattle.std.specs.Prelude.{◌≡◌, IfOk};
 ghost use Rattle.mb_problem.specs.Ready.{IsReady};
 ghost use Rattle.certificates.specs.Proved.{StatesTruth};
-ghost use Rattle.kind_answers.specs.Solved.{HasTrueStatus};
+ghost use Rattle.solve_answers.specs.Solved.{HasTrueStatus};
 ghost use Rattle.array_call.specs.Arrays.{arrays_of, network_of};
 ghost use Rattle.array_call.specs.Made.{IsFaultless};
 ghost use Rattle.array_call.specs.Answers.{Counts, Solves, SolvesFor};
@@ -27,7 +27,7 @@ fn solve_instance<L: Ledger>(
 ) -> Result<Document, ArrayError>
     requires same { instance.now ≡ network_of kind (arrays_of arrays.now) }
     requires faultless { IsFaultless kind (arrays_of arrays.now) }
-    requires ready { IsReady kind instance.now }
+    requires well_formed { IsReady kind instance.now }
     ensures answer { SolvesFor brief kind (arrays_of arrays.now) result }
     ensures steps { Counts kind (arrays_of arrays.now) steps.old steps.new result }
 {

@@ -73,7 +73,7 @@ fn answered_unless<L: Ledger>(
     terminals: &[u32],
     steps: &mut Steps<L>,
 ) -> Result<ArrayAnswer, OutOfMemory>
-    requires plain { arrays.now.values.now ≡ [] }
+    requires loopless { arrays.now.values.now ≡ [] }
     requires same { instance.old ≡ graph_network (arrays_of arrays.now) }
     requires faultless { IsFaultless TJoin (arrays_of arrays.now) }
     ensures answer { IfOk result (λ a. GivesJoins (arrays_of arrays.now) starts.now terminals.now

@@ -119,7 +119,7 @@ fn answer_set<L: Ledger>(
     steps: &mut Steps<L>,
 ) -> Result<SetOutcome, OutOfMemory>
     requires bare { HasNoTerminals instance.old }
-    requires few { length terminals.now < 2 ^ 32 }
+    requires size_limit { length terminals.now < 2 ^ 32 }
     ensures answer { IfOk result (AnswersSet instance.old terminals.now) }
     ensures steps { steps.new ≤ steps.old + set_steps instance.old terminals.now }
     ensures same { instance.new ≡ instance.old }

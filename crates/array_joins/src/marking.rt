@@ -33,7 +33,7 @@ fn terminal_rule(instance: &Instance, terminal: u32) -> Option<TerminalRule>
 /// Gives the terminals the value 1, up to the first that has a fault, and answers that fault.
 pub(crate) fn mark(instance: &mut Instance, terminals: &[u32]) -> Option<TerminalFault>
     requires bare { HasNoTerminals instance.old }
-    requires few { length terminals.now < 2 ^ 32 }
+    requires size_limit { length terminals.now < 2 ^ 32 }
     ensures fault { result ≡ first_fault (vertices instance.old) terminals.now }
     ensures marked { instance.new ≡ network_with instance.old (sound_part result terminals.now) }
 {

@@ -33,7 +33,7 @@ fn is_wrong(starts: &[u32], count: usize, k: usize) -> bool
 /// The index of the first wrong start, for so many terminals; 0 if there is no start at all.
 pub(crate) fn starts_fault(starts: &[u32], count: usize) -> Option<usize>
     ensures fault { result ≡ starts_fault starts.now count }
-    ensures small { IfSome result (λ k. k < 2 ^ 63) }
+    ensures value_limit { IfSome result (λ k. k < 2 ^ 63) }
 {
     if starts.is_empty() {
         return Some(0);
@@ -48,10 +48,10 @@ pub(crate) fn starts_fault(starts: &[u32], count: usize) -> Option<usize>
 
 /// The terminals of the set at an index.
 pub(crate) fn set_at<'a>(starts: &[u32], terminals: &'a [u32], k: usize) -> &'a [u32]
-    requires there { k < set_count starts.now }
+    requires in_range { k < set_count starts.now }
     requires starts { starts_fault starts.now (length terminals.now) ≡ None }
     ensures set { result.now ≡ set_at starts.now terminals.now k }
-    ensures few { length result.now < 2 ^ 32 }
+    ensures size_limit { length result.now < 2 ^ 32 }
 {
     let begin = starts[k] as usize;
     let end = starts[k + 1] as usize;

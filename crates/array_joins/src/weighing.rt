@@ -30,7 +30,7 @@ fn plus(a: i64, b: i64) -> i64
 /// The weights of edges, added up.
 pub(crate) fn weight_of(instance: &Instance, edges: &[EdgeId]) -> i64
     requires edges { All (IsEdgeNumber (graph_of instance.now)) edges.now }
-    requires few { length edges.now ≤ EDGE_LIMIT }
+    requires size_limit { length edges.now ≤ EDGE_LIMIT }
     ensures { result ≡ walk_weight (graph_of instance.now) edges.now }
 {
     let mut total = 0i64;

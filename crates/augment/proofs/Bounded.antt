@@ -2,11 +2,11 @@
 use Rattle.alt_forest.proofs.Common.{◌≡◌, ℕ, true, cond, List, [], ◌∷◌, length, refl, sym, ap, ◌∙◌, subst, arith, inr, edges_around, holds, outermost, Label, Outer, Out}
 use Rattle.alt_forest.proofs.Common.{first_in, later_in, State, is_label, IsSound, state_of, label_at}
 use Rattle.alt_forest.specs.declared.search.Search.{Search}
-use Rattle.event_bounds.specs.declared.bounds.EventBounds.{EventBounds}
-use Rattle.event_bounds.specs.Bounds.{IsBounding, IsBoundingBut}
-use Rattle.event_bounds.specs.Looks.{ends_outer}
-use Rattle.event_bounds.proofs.Kept.{bounding_still}
-use Rattle.event_bounds.proofs.Near.{near_same}
+use Rattle.search_keys.specs.declared.bounds.EventBounds.{EventBounds}
+use Rattle.search_keys.specs.Bounds.{IsBounding, IsBoundingBut}
+use Rattle.search_keys.specs.Looks.{ends_outer}
+use Rattle.search_keys.proofs.Kept.{bounding_still}
+use Rattle.search_keys.proofs.Near.{near_same}
 use Rattle.augment.specs.Exchange.{IsExchanged}
 use Rattle.augment.proofs.Joined.{inner_before}
 use Rattle.augment.proofs.Removed.{IsCut}
@@ -22,8 +22,14 @@ none_outer s (v ∷ vs) out =
 module _ (s t : Search) (e one other : ℕ) (sound : IsSound s) (rest : IsCut s t) (h : IsExchanged s t e one other) where
   -- a vertex that isn't noted lies in the same node, with the same label
   bounding_here : (b : EventBounds) → IsBounding s b
-      → IsBoundingBut (record s { arena = record s.arena { motions = t.arena.motions }; labels = t.labels; mates = t.mates; standing = t.standing; scanned = t.scanned }) b t.scanned.items
-  bounding_here b q = bounding_still s (record s { arena = record s.arena { motions = t.arena.motions }; labels = t.labels; mates = t.mates; standing = t.standing; scanned = t.scanned })
+      → IsBoundingBut (record s {
+        arena = record s.arena { motions = t.arena.motions };
+        labels = t.labels;
+        mates = t.mates;
+        tree_nodes = t.tree_nodes;
+        scanned = t.scanned;
+      }) b t.scanned.items
+  bounding_here b q = bounding_still s (record s { arena = record s.arena { motions = t.arena.motions }; labels = t.labels; mates = t.mates; tree_nodes = t.tree_nodes; scanned = t.scanned })
       b t.scanned.items sound.shape q refl refl q.low q.high (near_same (state_of s) _ s.clock _ refl refl (λ v is. refl) q.near)
       (λ v is unnoted. record { label = inr (h.scans v is unnoted); out = λ _. refl; outer = λ _. refl; apart = λ u there lab ne. ne })
       (λ a name is lab. q.blossoms a name is (inner_before s t e one other sound rest h a is lab))

@@ -2,11 +2,13 @@
 use Rattle.alt_forest.proofs.Common.{eq-eqb, ◌||◌, nested_of, nat_tests, ◌≡◌, ◌≢◌, ◌⊎◌, ℕ, zero, suc, ◌+◌, ◌<◌, ◌≤◌, true, false, not, eqb, cond}
 use Rattle.alt_forest.proofs.Common.{both_ways, joins_unique, ◌∷◌, [], length, vec_len, HasShape, IsEdgeNumber, mate_place, other_outer}
 use Rattle.alt_forest.proofs.Common.{Option, Some, None, refl, sym, ap, ◌∙◌, subst, arith, ⊎_elim, inl, inr, is_some, cases_eq, same_Some, holds, IsNested, Out, State}
-use Rattle.alt_forest.proofs.Common.{IsOutermost, Joins, IsMate, IsSearchState, node_limit, far_end, up_edge_by, up_of, path_within, path_of, root_of, IsRoot, put, IsSound, state_of, HasHop}
-use Rattle.alt_forest.proofs.Common.{IsRead, no_entry, IsHop, hop_above, has_hop, read_is, hop_path, hop_root, hop_shorter, up_to_inner, joins_turned, outer_not_out, some_not_none, put_here}
+use Rattle.alt_forest.proofs.Common.{IsOutermost, Joins, IsMate, IsSearchState, node_limit, far_end, up_edge_by, up_of, path_within, path_of, root_of, IsRoot, put, IsSound, state_of}
+use Rattle.alt_forest.proofs.Common.{HasGrandparentLink}
+use Rattle.alt_forest.proofs.Common.{IsRead, no_entry, IsGrandparentLink, hop_above, has_hop, read_is, hop_path, hop_root, hop_shorter, up_to_inner, joins_turned, outer_not_out}
+use Rattle.alt_forest.proofs.Common.{some_not_none, put_here}
 use Rattle.alt_forest.proofs.Common.{put_other, up_or_root, path_root, root_self, root_up, path_none, deeper_differs}
 use Rattle.alt_forest.specs.declared.search.Search.{Search}
-use Rattle.alt_forest.specs.declared.hop.Hop.{Hop}
+use Rattle.alt_forest.specs.declared.grandparent.GrandparentLink.{GrandparentLink}
 use Rattle.augment.specs.Turns.{HasMates, with_mates, IsLoose, CanClimb, IsClimbed}
 
 -- other mates, as many as before, leave the shape
@@ -14,8 +16,8 @@ pub shape_mated : (f t : Search) → HasShape f → t ≡ record f { mates = t.m
 shape_mated f t h rest len = subst HasShape (sym rest)
     (record { graph = h.graph; family = h.family; arena = h.arena; labels = h.labels; parents = h.parents; mates = len ∙ h.mates; circuit = h.circuit; room = h.room })
 
--- mates have a place for the inner node of a hop
-pub inner_place : (s : Search) (a : ℕ) (k : Hop) → HasShape s → HasHop (state_of s) a → IsRead (state_of s) a k → k.inner < vec_len s.mates
+-- mates have a place for the inner node of a grandparent link
+pub inner_place : (s : Search) (a : ℕ) (k : GrandparentLink) → HasShape s → HasGrandparentLink (state_of s) a → IsRead (state_of s) a k → k.inner < vec_len s.mates
 inner_place s a k h has read =
     let edge = subst (IsEdgeNumber s.graph) (same_Some has.mate k.mate (sym has.mate_kept ∙ read.mate)) has.mate_is in
     mate_place s k.inner h (subst (IsOutermost (state_of s)) (sym read.inner) (other_outer s k.mate a h edge))
@@ -70,8 +72,8 @@ module _ (s : State) (depth : ℕ → ℕ) (nested : IsNested s.graph.vertices s
       let other : was.0 ≢ high = λ q. some_not_none f (sym was.1.back ∙ ap m q ∙ as_before ∙ root) in
       (was.0, moved s m n a f was.0 was.1 (put_other m high (Some e) was.0 other)))
 
-  -- from an outer node with a mate it goes on from the outer node of its hop
-  pub goes_on : (k : Hop) → IsHop s depth high k → IsLoose s depth base (put (put m high (Some e)) k.inner (Some k.parent)) k.inner k.parent k.outer
+  -- from an outer node with a mate it goes on from the outer node of its grandparent link
+  pub goes_on : (k : GrandparentLink) → IsGrandparentLink s depth high k → IsLoose s depth base (put (put m high (Some e)) k.inner (Some k.parent)) k.inner k.parent k.outer
   goes_on k hop =
       let f : ℕ = k.mate in let q : ℕ = k.inner in let w = hop.is_mate in
       let n : ℕ → Option ℕ = put (put m high (Some e)) q (Some k.parent) in
@@ -130,8 +132,8 @@ no_deeper s depth before e start m by node h = ⊎_elim (λ p. let same = ap dep
 
 module _ (s : State) (depth : ℕ → ℕ) (nested : IsNested s.graph.vertices s.blossoms) (st : IsSearchState s depth) (before : ℕ → Option ℕ) (e start : ℕ) (m : ℕ → Option ℕ)
     (by node : ℕ) (h : IsChanged s depth before e start m by node) where
-  -- it goes on from the outer node of the hop
-  pub changed_on : (k : Hop) → IsHop s depth node k → IsChanged s depth before e start (put (put m node (Some by)) k.inner (Some k.parent)) k.parent k.outer
+  -- it goes on from the outer node of the grandparent link
+  pub changed_on : (k : GrandparentLink) → IsGrandparentLink s depth node k → IsChanged s depth before e start (put (put m node (Some by)) k.inner (Some k.parent)) k.parent k.outer
   changed_on k hop =
       let n : ℕ → Option ℕ = put (put m node (Some by)) k.inner (Some k.parent) in
       let up : ℕ = k.outer in
@@ -200,7 +202,7 @@ can_climb s t sound e start low base is loose =
     let nested = nested_of s sound.shape in
     record { was = state_of s; depth = sound.depth; nested = nested; state = sound.state; base = base; low = low; is = is; loose = loose nested sound.depth sound.state }
 
--- What a loop over the hops keeps of each way to see the mates that it began with.
+-- What a loop over the grandparent links keeps of each way to see the mates that it began with.
 pub record IsClimbing (t : State) (e start : ℕ) (h : CanClimb t e start) (m : ℕ → Option ℕ) (by node : ℕ) : Type 0 where
   pub low : ℕ
   pub loose : IsLoose h.was h.depth h.base m low by node
@@ -214,24 +216,26 @@ module _ (t : State) (e start : ℕ) (h : CanClimb t e start) where
     state_is : with_mates t m ≡ with_mates h.was m
     state_is = ap (λ (x : State). with_mates x m) h.is
 
-    above : is_some (m node) ≡ true → (k : Hop) × IsHop h.was h.depth node k
+    above : is_some (m node) ≡ true → (k : GrandparentLink) × IsGrandparentLink h.was h.depth node k
     above has =
         let some = entry_of (m node) has in
         hop_above h.was h.depth node some.0 h.state v.loose.high_is v.loose.high_outer (sym same ∙ some.1)
 
-    pub can_hop : is_some (m node) ≡ true → HasHop (with_mates t m) node
+    pub can_hop : is_some (m node) ≡ true → HasGrandparentLink (with_mates t m) node
     can_hop has =
         let k = above has in let r = has_hop h.was h.depth node k.0 k.1 in
-        subst (λ (x : State). HasHop x node) (sym state_is)
+        subst (λ (x : State). HasGrandparentLink x node) (sym state_is)
         (record { mate = r.mate; mate_is = r.mate_is; mate_kept = same ∙ r.mate_kept; parent = r.parent; parent_is = r.parent_is; parent_kept = r.parent_kept })
 
-    pub is_hop : is_some (m node) ≡ true → (k : Hop) → IsRead (with_mates t m) node k → IsHop h.was h.depth node k
+    pub is_hop : is_some (m node) ≡ true → (k : GrandparentLink) → IsRead (with_mates t m) node k → IsGrandparentLink h.was h.depth node k
     is_hop has k read =
         let r : IsRead (with_mates h.was m) node k = subst (λ (x : State). IsRead x node k) state_is read in
         let a = above has in
-        subst (IsHop h.was h.depth node) (sym (read_is h.was h.depth node a.0 a.1 k (record { mate = sym same ∙ r.mate; inner = r.inner; parent = r.parent; outer = r.outer }))) a.1
+        subst (IsGrandparentLink h.was h.depth node)
+        (sym (read_is h.was h.depth node a.0 a.1 k (record { mate = sym same ∙ r.mate; inner = r.inner; parent = r.parent; outer = r.outer }))) a.1
 
-    pub climbing_on : is_some (m node) ≡ true → (k : Hop) → IsRead (with_mates t m) node k → IsClimbing t e start h (put (put m node (Some by)) k.inner (Some k.parent)) k.parent k.outer
+    pub climbing_on : is_some (m node) ≡ true → (k : GrandparentLink) → IsRead (with_mates t m) node k
+        → IsClimbing t e start h (put (put m node (Some by)) k.inner (Some k.parent)) k.parent k.outer
     climbing_on has k read =
         let hop = is_hop has k read in
         record {
@@ -240,7 +244,7 @@ module _ (t : State) (e start : ℕ) (h : CanClimb t e start) where
           changed = changed_on h.was h.depth h.nested h.state t.mate e start m by node v.changed k hop;
         }
 
-    pub climbing_shorter : is_some (m node) ≡ true → (k : Hop) → IsRead (with_mates t m) node k → length (path_of t k.outer) < length (path_of t node)
+    pub climbing_shorter : is_some (m node) ≡ true → (k : GrandparentLink) → IsRead (with_mates t m) node k → length (path_of t k.outer) < length (path_of t node)
     climbing_shorter has k read =
         let hop = is_hop has k read in let on = climbing_on has k read in
         let here : path_of t node ≡ path_of h.was node = ap (λ (x : State). path_of x node) h.is

@@ -5,7 +5,7 @@ use Rattle.alt_forest.proofs.Common.{subst, arith, ⊎_elim, Option, Some, None,
 use Rattle.alt_forest.proofs.Common.{get_or-map-range_with_len, length-map-range_with_len, Edge, HasNoLoop, Multigraph, IsEdgeWithin, IsEdgeNumber, edge_of, edge_at, touches, degree}
 use Rattle.alt_forest.proofs.Common.{IsPerfect, holds, crosses, sum_to-same, sum_to-zero, sum_to-at_one, one_if-most, edge_of-place, number_of-place, degree-touches, is_vertex, is_outermost}
 use Rattle.alt_forest.proofs.Common.{by_test, range_vertex, u_vertex, v_vertex}
-use Rattle.outer_sets.specs.Matchings.{IsMatched as IsMatchedBy}
+use Rattle.gallai_theory.specs.Matchings.{IsMatched as IsMatchedBy}
 use Rattle.augment.specs.Matching.{is_edge, mate_counts, IsVertexMate, AreVertexMates, leaving}
 use Rattle.augment.specs.Opening.{AreMated}
 use Rattle.augment.proofs.Left.{IsLeftOnce, leaves}

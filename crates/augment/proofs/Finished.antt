@@ -3,7 +3,7 @@ use Rattle.alt_forest.proofs.Common.{◌≡◌, ℕ, true, false, List, [], ◌�
 use Rattle.alt_forest.proofs.Common.{Blossom, IsNested, is_vertex, is_child, outermost, outermost_parts, outermost_has, State, IsOutermost, IsTight, IsMate, IsSearchState, IsSound, state_of}
 use Rattle.alt_forest.proofs.Common.{edge_in, nested_of, some_not_none, IsMatched, tight_rings}
 use Rattle.alt_forest.specs.declared.search.Search.{Search}
-use Rattle.outer_sets.specs.Matchings.{IsMatched as IsMatchedBy}
+use Rattle.gallai_theory.specs.Matchings.{IsMatched as IsMatchedBy}
 use Rattle.augment.specs.Matching.{IsVertexMate, AreVertexMates, MissesOneEach, mate_counts, leaving}
 use Rattle.augment.specs.Opening.{IsBare, IsSpread, AreInner, Unpacks, CanMark, CanUnpack}
 use Rattle.augment.specs.Turns.{HasMates, with_mates}
@@ -78,7 +78,7 @@ module _ (s : Search) (h : IsSound s) (old : ℕ → Option ℕ) (mates : HasMat
       are_vertex_mates = vertex_mates s.graph final h.shape.graph.graph.ends v.mated
 
       pub is_matching : IsMatchedBy s.graph (mate_counts s.graph final)
-      is_matching = matching s.graph final h.shape.graph.graph.ends are_vertex_mates h.shape.graph.plain
+      is_matching = matching s.graph final h.shape.graph.graph.ends are_vertex_mates h.shape.graph.loopless
 
       pub leaves_one : AreInner s.arena.blossoms inner → LeavesOut t inner final
       leaves_one are = leaves_out t inner m final (nested_of s h.shape) are same_outer u
@@ -101,7 +101,7 @@ module _ (s : Search) (h : IsSound s) (m final : ℕ → Option ℕ) (same : (a 
       vertex_mates s.graph final h.shape.graph.graph.ends own.mated x r.0 iv r.1
 
   pub is_perfect : IsMatched (state_of s) → IsPerfect s.graph (mate_counts s.graph final)
-  is_perfect matched = perfect s.graph final h.shape.graph.graph.ends (vertex_mates s.graph final h.shape.graph.graph.ends own.mated) h.shape.graph.plain (each_vertex matched)
+  is_perfect matched = perfect s.graph final h.shape.graph.graph.ends (vertex_mates s.graph final h.shape.graph.graph.ends own.mated) h.shape.graph.loopless (each_vertex matched)
 
   pub each_tight : (x e : ℕ) → is_vertex s.graph.vertices x ≡ true → final x ≡ Some e → IsTight (with_mates (state_of s) final) e
   each_tight x e is has = still_tight (state_of s) h.depth final own.kept h.state e (own.tight x e (vertex_outer s.graph.vertices x is) has)

@@ -1,8 +1,9 @@
--- The nodes of a way up take their edges one by one: it comes to the same as a flip by hops.
+-- The nodes of a way up take their edges one by one: it comes to the same as a flip by grandparent links.
 use Rattle.alt_forest.proofs.Common.{◌≡◌, ℕ, zero, suc, ◌+◌, ◌<◌, List, [], ◌∷◌, Option, Some, None, cond, refl, sym, ap, ◌∙◌, subst, arith, AllByRecursion}
-use Rattle.alt_forest.proofs.Common.{IsNested, Outer, Inner, State, IsOutermost, IsSearchState, node_limit, path_of, is_label, IsRoot, put, IsHop, hop_above, hop_path, IsPassed, descends}
+use Rattle.alt_forest.proofs.Common.{IsNested, Outer, Inner, State, IsOutermost, IsSearchState, node_limit, path_of, is_label, IsRoot, put, IsGrandparentLink, hop_above, hop_path, IsPassed}
+use Rattle.alt_forest.proofs.Common.{descends}
 use Rattle.alt_forest.proofs.Common.{put_here, put_other, path_root}
-use Rattle.alt_forest.specs.declared.hop.Hop.{Hop}
+use Rattle.alt_forest.specs.declared.grandparent.GrandparentLink.{GrandparentLink}
 use Rattle.augment.specs.Turns.{IsLoose, IsClimbed, IsUprooted, edge_up}
 use Rattle.augment.proofs.Climbing.{IsChanged, as_before, goes_on, changed_first, changed_on, climbed}
 use Rattle.augment.proofs.Uprooted.{uprooted_root, uproots, uprooted}
@@ -26,8 +27,8 @@ module _ (s : State) (depth : ℕ → ℕ) (nested : IsNested s.graph.vertices s
       → flipped s m last (a ∷ rest) ≡ flipped s (put m a (Some p)) (Some p) rest
   inner_takes m last a p rest lab has = ap (λ e. flipped s (put m a e) e rest) (ap (λ l. cond (is_label l Inner) (s.parent a) last) lab ∙ has)
 
-  -- a hop
-  hop_takes : (m : ℕ → Option ℕ) (last : Option ℕ) (a : ℕ) (k : Hop) → IsHop s depth a k
+  -- a grandparent link
+  hop_takes : (m : ℕ → Option ℕ) (last : Option ℕ) (a : ℕ) (k : GrandparentLink) → IsGrandparentLink s depth a k
       → flipped s m last (path_of s a) ≡ flipped s (put (put m a last) k.inner (Some k.parent)) (Some k.parent) (path_of s k.outer)
   hop_takes m last a k hop =
       ap (flipped s m last) (hop_path s depth a k hop depth nested st)
@@ -48,7 +49,7 @@ module _ (s : State) (depth : ℕ → ℕ) (nested : IsNested s.graph.vertices s
       (sym (root_takes m (Some by) node (record { outermost = loose.high_is; outer = loose.high_outer; exposed = none })))
       (climbed s depth nested st before e start m by node changed base low loose (as_before s depth nested st base m low by node loose ∙ none))
   climb_on base before m e start low by node loose changed (Some f) has above =
-      let r = hop_above s depth node f st loose.high_is loose.high_outer has in let k : Hop = r.0 in
+      let r = hop_above s depth node f st loose.high_is loose.high_outer has in let k : GrandparentLink = r.0 in
       let hop = r.1 in
       subst (λ (n : ℕ → Option ℕ). IsClimbed s base before n e start) (sym (hop_takes m (Some by) node k hop))
       (above (put (put m node (Some by)) k.inner (Some k.parent)) k.inner k.parent k.outer (omega (arith, hop.lower, hop.lowest))
@@ -68,7 +69,7 @@ module _ (s : State) (depth : ℕ → ℕ) (nested : IsNested s.graph.vertices s
           let root : IsRoot s far = record { outermost = is; outer = lab; exposed = none } in
           subst (λ (n : ℕ → Option ℕ). IsUprooted s n far) (sym (root_takes s.mate None far root ∙ put_same s.mate far None none)) (uprooted_root s depth nested st far root)
       by_mate (Some f) has =
-          let r = hop_above s depth far f st is lab has in let k : Hop = r.0 in let hop = r.1 in
+          let r = hop_above s depth far f st is lab has in let k : GrandparentLink = r.0 in let hop = r.1 in
           let base : ℕ → Option ℕ = put s.mate far None in
           let begun : ℕ → Option ℕ = put base k.inner (Some k.parent) in
           subst (λ (n : ℕ → Option ℕ). IsUprooted s n far) (sym (hop_takes s.mate None far k hop))

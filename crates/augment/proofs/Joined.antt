@@ -5,7 +5,7 @@ use Rattle.alt_forest.proofs.Common.{outermost, u_vertex, v_vertex, new_from_dis
 use Rattle.alt_forest.proofs.Common.{is_label, root_of, tree_count, NeedsMoment, IsQueued, IsQueuedBut, entered_among, entry_count, ends_around, out_ends, IsSound, state_of, label_at}
 use Rattle.alt_forest.proofs.Common.{edge_in, weigh_less, ends_most, nested_of, outer_not_out, inner_not_out, ways_lead}
 use Rattle.alt_forest.specs.declared.search.Search.{Search}
-use Rattle.edge_queue.specs.declared.item.Item.TheVariants.{Edge}
+use Rattle.search_heap.specs.declared.item.Item.TheVariants.{Edge}
 use Rattle.augment.specs.Exchange.{IsExchanged}
 use Rattle.augment.proofs.Exchanged.{out_or_not}
 use Rattle.augment.proofs.Fewer.{root_counted, none_counted}
@@ -40,23 +40,23 @@ out_from k t = grind (arith, nat_tests)
 
 module _ (s t : Search) (e one other : ℕ) (sound : IsSound s) (rest : IsCut s t) (h : IsExchanged s t e one other) where
   -- what is in a tree is listed
-  pub listed_tree : (a : ℕ) → IsOutermost (state_of s) a → label_at t.labels.items a ≢ Out → holds t.standing.nodes a ≡ true
+  pub listed_tree : (a : ℕ) → IsOutermost (state_of s) a → label_at t.labels.items a ≢ Out → holds t.tree_nodes.nodes a ≡ true
   listed_tree a is in_it =
-      let r = h.standing.trees a (subst (λ (u : Search). IsOutermost (state_of u) a) (sym rest) is) in_it in
-      sym (h.standing.listed.seeded a) ∙ ap (λ (o : Option ℕ). is_some o) r.1
+      let r = h.listed.trees a (subst (λ (u : Search). IsOutermost (state_of u) a) (sym rest) is) in_it in
+      sym (h.listed.listed.seeded a) ∙ ap (λ (o : Option ℕ). is_some o) r.1
 
   -- where anything is listed, a tree stands
-  pub some_tree : IsSound t → length t.standing.nodes ≢ 0 → tree_count (state_of t) ≢ 0
+  pub some_tree : IsSound t → length t.tree_nodes.nodes ≢ 0 → tree_count (state_of t) ≢ 0
   some_tree now some =
       let r = h.some some in
       root_counted (state_of t) (root_of (state_of t) r.0) (nested_of t now.shape)
       (ways_lead (state_of t) now.depth r.0 (nested_of t now.shape) now.state (subst (λ (u : Search). IsOutermost (state_of u) r.0) (sym rest) r.1) r.2).root
 
-  pub no_tree : t.standing.nodes ≡ [] → (a : ℕ) → IsOutermost (state_of s) a → label_at t.labels.items a ≡ Out
+  pub no_tree : t.tree_nodes.nodes ≡ [] → (a : ℕ) → IsOutermost (state_of s) a → label_at t.labels.items a ≡ Out
   no_tree none a is = ⊎_elim
-      (λ q. q) (λ in_it. absurd (both_ways (holds t.standing.nodes a) (ap (λ xs. holds xs a) none) (listed_tree a is in_it))) (out_or_not (label_at t.labels.items a))
+      (λ q. q) (λ in_it. absurd (both_ways (holds t.tree_nodes.nodes a) (ap (λ xs. holds xs a) none) (listed_tree a is in_it))) (out_or_not (label_at t.labels.items a))
 
-  pub none_left : t.standing.nodes ≡ [] → tree_count (state_of t) ≡ 0
+  pub none_left : t.tree_nodes.nodes ≡ [] → tree_count (state_of t) ≡ 0
   none_left none = none_counted (state_of t) (λ r root. outer_not_out (sym root.outer ∙ no_tree none r (subst (λ (u : Search). IsOutermost (state_of u) r) rest root.outermost)))
 
   -- what is inner was so before
@@ -67,8 +67,8 @@ module _ (s t : Search) (e one other : ℕ) (sound : IsSound s) (rest : IsCut s 
       sym (h.removed.stays a is away) ∙ lab
 
   -- looks at the vertices of the two trees will do
-  queued_here : length t.standing.nodes ≢ 0 → IsQueued s
-      → IsQueuedBut (record s { arena = record s.arena { motions = t.arena.motions }; labels = t.labels; mates = t.mates; standing = t.standing; scanned = t.scanned }) t.scanned.items
+  queued_here : length t.tree_nodes.nodes ≢ 0 → IsQueued s
+      → IsQueuedBut (record s { arena = record s.arena { motions = t.arena.motions }; labels = t.labels; mates = t.mates; tree_nodes = t.tree_nodes; scanned = t.scanned }) t.scanned.items
   queued_here some q = record {
     low = q.low;
     high = q.high;
@@ -81,7 +81,7 @@ module _ (s t : Search) (e one other : ℕ) (sound : IsSound s) (rest : IsCut s 
     tree = λ none. let r = h.some some in r.2 (none r.0 r.1);
   }
 
-  pub queued_but : length t.standing.nodes ≢ 0 → IsQueued s → IsQueuedBut t t.scanned.items
+  pub queued_but : length t.tree_nodes.nodes ≢ 0 → IsQueued s → IsQueuedBut t t.scanned.items
   queued_but some q = subst (λ (u : Search). IsQueuedBut u t.scanned.items) (sym rest) (queued_here some q)
 
   pub scanned_vertex : (w : ℕ) → holds t.scanned.items w ≡ true → is_vertex t.graph.vertices w ≡ true

@@ -4,7 +4,7 @@ use Rattle.alt_forest.proofs.Common.{sym, ap, ◌∙◌, subst, arith, ⊎_elim,
 use Rattle.alt_forest.proofs.Common.{take_more, append-nil, flat_map-append, length-flat_map-take, Multigraph, IsEdgeNumber, edge_of, holds, holds-append, all_holds, IsNested, is_vertex}
 use Rattle.alt_forest.proofs.Common.{members_of, outermost, u_vertex, v_vertex, by_test, AllNew, new_from_distinct, new-append, length-within, vertices, holds-vertices, length-vertices}
 use Rattle.alt_forest.proofs.Common.{first_in, later_in, each_from, outermost_parts, member_vertex, members_new, outermost_has, outermost_by_member, Outer, IsOutermost, Joins, IsQueuedBut}
-use Rattle.alt_forest.proofs.Common.{touches_any, ends_around, IsSound, state_of, label_at, IsStanding, nested_of, outer_not_out}
+use Rattle.alt_forest.proofs.Common.{touches_any, ends_around, IsSound, state_of, label_at, HasTreeNodes, nested_of, outer_not_out}
 use Rattle.alt_forest.specs.declared.search.Search.{Search}
 use Rattle.augment.specs.Sides.{is_outer, outer_part, outer_vertices}
 
@@ -62,37 +62,37 @@ module _ (s : Search) (nested : IsNested s.graph.vertices s.arena.blossoms) wher
   part_outermost : (a w : ℕ) → holds (outer_part s a) w ≡ true → outermost s.arena.blossoms w ≡ a
   part_outermost a w e = let r = part_outer a w e in outermost_by_member s.graph.vertices s.arena.blossoms a w nested r.0 r.1
 
-  pub outer_new : IsDistinct nat_eq s.standing.nodes → AllNew (outer_vertices s)
-  outer_new different = flat_new (outer_part s) s.standing.nodes (new_from_distinct s.standing.nodes different)
+  pub outer_new : IsDistinct nat_eq s.tree_nodes.nodes → AllNew (outer_vertices s)
+  outer_new different = flat_new (outer_part s) s.tree_nodes.nodes (new_from_distinct s.tree_nodes.nodes different)
       (λ a on. part_new a) (λ a b w p q e f. sym (part_outermost a w e) ∙ part_outermost b w f)
 
   pub outer_vertex : (w : ℕ) → holds (outer_vertices s) w ≡ true → is_vertex s.graph.vertices w ≡ true
   outer_vertex w e =
-      let r = flat_part (outer_part s) s.standing.nodes w e in let o = part_outer r.0 w r.2 in
+      let r = flat_part (outer_part s) s.tree_nodes.nodes w e in let o = part_outer r.0 w r.2 in
       member_vertex s.graph.vertices s.arena.blossoms r.0 w nested (outermost_parts s.graph.vertices s.arena.blossoms r.0 o.0).0 o.1
 
   outer_has : (w : ℕ) → is_vertex s.graph.vertices w ≡ true → label_at s.labels.items (outermost s.arena.blossoms w) ≡ Outer
-      → holds s.standing.nodes (outermost s.arena.blossoms w) ≡ true → holds (outer_vertices s) w ≡ true
+      → holds s.tree_nodes.nodes (outermost s.arena.blossoms w) ≡ true → holds (outer_vertices s) w ≡ true
   outer_has w is outer on =
       let a : ℕ = outermost s.arena.blossoms w in
       let there = outermost_has s.graph.vertices s.arena.blossoms w nested is in
-      flat_has (outer_part s) s.standing.nodes a w on (grind (arith, nat_tests))
+      flat_has (outer_part s) s.tree_nodes.nodes a w on (grind (arith, nat_tests))
 
   -- there is room for the vertices of one node more
-  pub room_more : IsDistinct nat_eq s.standing.nodes → (place : ℕ) → place < length s.standing.nodes
-      → length (flat_map (outer_part s) (take place s.standing.nodes)) + length (outer_part s (get_or s.standing.nodes place 0)) ≤ s.graph.vertices
+  pub room_more : IsDistinct nat_eq s.tree_nodes.nodes → (place : ℕ) → place < length s.tree_nodes.nodes
+      → length (flat_map (outer_part s) (take place s.tree_nodes.nodes)) + length (outer_part s (get_or s.tree_nodes.nodes place 0)) ≤ s.graph.vertices
   room_more different place low =
       let n : ℕ = s.graph.vertices in
       let within = length-within (outer_vertices s) (vertices n) (outer_new different) (λ w e. holds-vertices n w ∙ outer_vertex w e) in
-      omega (arith, within, length-vertices n, length-flat_map-take (outer_part s) s.standing.nodes place 0 low)
+      omega (arith, within, length-vertices n, length-flat_map-take (outer_part s) s.tree_nodes.nodes place 0 low)
 
 -- An edge that touches none of the vertices of outer nodes needs no moment.
-module _ (s : Search) (sound : IsSound s) (standing : IsStanding s) where
+module _ (s : Search) (sound : IsSound s) (tree_nodes : HasTreeNodes s) where
   no_outer : (w : ℕ) → is_vertex s.graph.vertices w ≡ true → holds (outer_vertices s) w ≡ false → label_at s.labels.items (outermost s.arena.blossoms w) ≢ Outer
   no_outer w is none outer =
       let nested = nested_of s sound.shape in
-      let there = standing.trees (outermost s.arena.blossoms w) (outermost_has s.graph.vertices s.arena.blossoms w nested is).0 (λ q. outer_not_out (sym outer ∙ q)) in
-      both_ways (holds (outer_vertices s) w) none (outer_has s nested w is outer (sym (standing.listed.seeded (outermost s.arena.blossoms w)) ∙ ap (λ (o : Option ℕ). is_some o) there.1))
+      let there = tree_nodes.trees (outermost s.arena.blossoms w) (outermost_has s.graph.vertices s.arena.blossoms w nested is).0 (λ q. outer_not_out (sym outer ∙ q)) in
+      both_ways (holds (outer_vertices s) w) none (outer_has s nested w is outer (sym (tree_nodes.listed.seeded (outermost s.arena.blossoms w)) ∙ ap (λ (o : Option ℕ). is_some o) there.1))
 
   no_outer_end : (d a b : ℕ) → IsEdgeNumber s.graph d → touches_any (outer_vertices s) (edge_of s.graph d) ≡ false → Joins s.graph s.arena.blossoms d a b → label_at s.labels.items a ≢ Outer
   no_outer_end d a b number none joins outer =
@@ -119,20 +119,20 @@ queued_with s t vs rest q =
     subst (λ (x : Search). IsQueuedBut x vs) (sym rest) h
 
 -- looks at the edges at the vertices of one side or the other will do
-module _ (s t : Search) (sound : IsSound s) (standing : IsStanding s) (rest : t ≡ record s { scanned = t.scanned })
+module _ (s t : Search) (sound : IsSound s) (tree_nodes : HasTreeNodes s) (rest : t ≡ record s { scanned = t.scanned })
     (side : (t.scanned.items ≡ outer_vertices s) ⊎ (t.scanned.items ≡ s.scanned.items)) where
   pub side_vertices : All (λ v. is_vertex s.graph.vertices v ≡ true) s.scanned.items → All (λ v. is_vertex s.graph.vertices v ≡ true) t.scanned.items
   side_vertices all = ⊎_elim (λ e. rw e (all_holds (λ v. is_vertex s.graph.vertices v ≡ true) (outer_vertices s) (outer_vertex s (nested_of s sound.shape)))) (λ e. rw e all) side
 
   pub side_queued : IsQueuedBut s s.scanned.items → IsQueuedBut t t.scanned.items
-  side_queued q = queued_with s t t.scanned.items rest (⊎_elim (λ e. rw e (outer_queued s sound standing s.scanned.items q)) (λ e. rw e q) side)
+  side_queued q = queued_with s t t.scanned.items rest (⊎_elim (λ e. rw e (outer_queued s sound tree_nodes s.scanned.items q)) (λ e. rw e q) side)
 
 -- what two calls leave
 pub rest_then : (s t u : Search) → t ≡ record s { scanned = t.scanned } → u ≡ record t { queue = u.queue } → u ≡ record s { queue = u.queue; scanned = u.scanned }
 rest_then s t u first second = subst (λ (x : Search). x ≡ record s { queue = x.queue; scanned = x.scanned }) (sym second) (ap (λ (x : Search). record x { queue = u.queue }) first)
 
 -- the list of nodes has nothing to do with moments, nor with what is to be looked at
-pub standing_then : (s t : Search) → t ≡ record s { queue = t.queue; scanned = t.scanned } → IsStanding s → IsStanding t
-standing_then s t rest h =
-    let now : IsStanding (record s { queue = t.queue; scanned = t.scanned }) = record { listed = h.listed; trees = h.trees; same = h.same; moves = h.moves } in
-    subst IsStanding (sym rest) now
+pub tree_nodes_then : (s t : Search) → t ≡ record s { queue = t.queue; scanned = t.scanned } → HasTreeNodes s → HasTreeNodes t
+tree_nodes_then s t rest h =
+    let now : HasTreeNodes (record s { queue = t.queue; scanned = t.scanned }) = record { listed = h.listed; trees = h.trees; same = h.same; moves = h.moves } in
+    subst HasTreeNodes (sym rest) now

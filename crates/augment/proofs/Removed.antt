@@ -13,7 +13,7 @@ with_both s m l = record s { mate = m; label = l }
 
 -- what two searches have in common, once two trees of the first are taken away in the second
 abbrev pub IsCut : Search → Search → Type 0
-IsCut s t = t ≡ record s { arena = record s.arena { motions = t.arena.motions }; labels = t.labels; mates = t.mates; standing = t.standing; scanned = t.scanned }
+IsCut s t = t ≡ record s { arena = record s.arena { motions = t.arena.motions }; labels = t.labels; mates = t.mates; tree_nodes = t.tree_nodes; scanned = t.scanned }
 
 pub where_is : (s : State) (one other a : ℕ) → ((root_of s a ≡ one) ⊎ (root_of s a ≡ other)) ⊎ IsElsewhere s one other a
 where_is s one other a = ⊎_elim

@@ -2,11 +2,12 @@
 use Rattle.alt_forest.proofs.Common.{by_test, or_parts, eq-eqb, eqb-false, no_entry, not, both_ways, cases_eq, ◌||◌, nat_tests, ◌≡◌, ◌≢◌, ℕ, zero, suc, ◌+◌, ◌<◌}
 use Rattle.alt_forest.proofs.Common.{true, false, eqb, ◌∷◌, Option, Some, None, refl, sym, ap, ◌∙◌}
 use Rattle.alt_forest.proofs.Common.{subst, arith, ⊎_elim, is_some, eqb-true, false_from_ne_true, holds, IsNested, Outer, Out, State, IsOutermost, IsMate}
-use Rattle.alt_forest.proofs.Common.{IsSearchState, node_limit, path_of, root_of, IsRoot, put, HasHop, IsRead, IsHop, hop_above, has_hop, read_is, hop_path, hop_root, joins_turned}
+use Rattle.alt_forest.proofs.Common.{IsSearchState, node_limit, path_of, root_of, IsRoot, put, HasGrandparentLink, IsRead, IsGrandparentLink, hop_above, has_hop, read_is, hop_path, hop_root}
+use Rattle.alt_forest.proofs.Common.{joins_turned}
 use Rattle.alt_forest.proofs.Common.{mate_turned, partner_unique, descends, passed_at, inl, inr, outer_not_out, outer_not_inner, some_not_none, put_here, put_other, up_or_root, path_root}
 use Rattle.alt_forest.proofs.Common.{path_up}
 use Rattle.alt_forest.proofs.Common.{root_self, root_up, deeper_differs}
-use Rattle.alt_forest.specs.declared.hop.Hop.{Hop}
+use Rattle.alt_forest.specs.declared.grandparent.GrandparentLink.{GrandparentLink}
 use Rattle.augment.specs.Turns.{JoinsTwoTrees, IsLoose, IsClimbed, IsUprooted, IsTurned}
 use Rattle.augment.proofs.Climbing.{entry_of, moved, moved_first, seen_put}
 
@@ -45,20 +46,20 @@ module _ (s : State) (depth : ℕ → ℕ) (nested : IsNested s.graph.vertices s
     seen = λ c ne nr. refl;
   }
 
-  -- an outer node with a mate has a hop, and what is read there is that one
-  hop_there : (far : ℕ) → IsOutermost s far → s.label far ≡ Outer → is_some (s.mate far) ≡ true → (k : Hop) × IsHop s depth far k
+  -- an outer node with a mate has a grandparent link, and what is read there is that one
+  hop_there : (far : ℕ) → IsOutermost s far → s.label far ≡ Outer → is_some (s.mate far) ≡ true → (k : GrandparentLink) × IsGrandparentLink s depth far k
   hop_there far is lab has =
       let some = entry_of (s.mate far) has in
       hop_above s depth far some.0 st is lab some.1
 
-  pub some_hop : (far : ℕ) → IsOutermost s far → s.label far ≡ Outer → is_some (s.mate far) ≡ true → HasHop s far
+  pub some_hop : (far : ℕ) → IsOutermost s far → s.label far ≡ Outer → is_some (s.mate far) ≡ true → HasGrandparentLink s far
   some_hop far is lab has = let k = hop_there far is lab has in has_hop s depth far k.0 k.1
 
-  pub read_hop : (far : ℕ) → IsOutermost s far → s.label far ≡ Outer → is_some (s.mate far) ≡ true → (k : Hop) → IsRead s far k → IsHop s depth far k
-  read_hop far is lab has k read = let a = hop_there far is lab has in subst (IsHop s depth far) (sym (read_is s depth far a.0 a.1 k read)) a.1
+  pub read_hop : (far : ℕ) → IsOutermost s far → s.label far ≡ Outer → is_some (s.mate far) ≡ true → (k : GrandparentLink) → IsRead s far k → IsGrandparentLink s depth far k
+  read_hop far is lab has k read = let a = hop_there far is lab has in subst (IsGrandparentLink s depth far) (sym (read_is s depth far a.0 a.1 k read)) a.1
 
   -- an outer node with a mate has none any more, and its mate takes its parent
-  module _ (far : ℕ) (k : Hop) (hop : IsHop s depth far k) where
+  module _ (far : ℕ) (k : GrandparentLink) (hop : IsGrandparentLink s depth far k) where
     abbrev base : ℕ → Option ℕ
     base = put s.mate far None
 

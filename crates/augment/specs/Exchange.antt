@@ -8,7 +8,7 @@ use Rattle.alt_forest.specs.declared.search.Search.{Search}
 use Rattle.alt_forest.specs.State.{IsOutermost}
 use Rattle.alt_forest.specs.Trees.{path_of, root_of}
 use Rattle.alt_forest.specs.Searches.{state_of, label_at, edge_in}
-use Rattle.alt_forest.specs.Standing.{IsStanding}
+use Rattle.alt_forest.specs.TreeNodes.{HasTreeNodes}
 use Rattle.augment.specs.Turns.{IsRemoved}
 
 -- The edge e is the mate of both nodes, their trees are taken away, and just the vertices of these
@@ -21,8 +21,8 @@ pub record IsExchanged (s t : Search) (e one other : ℕ) : Type 0 where
   pub keeps : (a : ℕ) → holds (path_of (state_of s) one) a ≡ false
       → holds (path_of (state_of s) other) a ≡ false
       → edge_in t.mates.items a ≡ edge_in s.mates.items a
-  pub standing : IsStanding t
-  pub some : length t.standing.nodes ≢ 0 → (a : ℕ) × (IsOutermost (state_of s) a)
+  pub listed : HasTreeNodes t
+  pub some : length t.tree_nodes.nodes ≢ 0 → (a : ℕ) × (IsOutermost (state_of s) a)
       × (label_at t.labels.items a ≢ Out)
   pub different : IsDistinct nat_eq t.scanned.items
   pub vertices : (w : ℕ) → holds t.scanned.items w ≡ true → is_vertex s.graph.vertices w ≡ true

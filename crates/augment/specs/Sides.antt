@@ -18,4 +18,4 @@ outer_part s a = if is_outer s a then members_of s.arena.blossoms a else []
 
 -- the vertices of all outer nodes that are listed
 abbrev pub outer_vertices : Search → List ℕ
-outer_vertices s = flat_map (outer_part s) s.standing.nodes
+outer_vertices s = flat_map (outer_part s) s.tree_nodes.nodes

@@ -7,10 +7,10 @@ ghost use Rattle.alt_forest.specs.Events.{CanAugment};
 ghost use Rattle.alt_forest.specs.Searches.{IsSound, state_of, label_at, edge_in};
 ghost use Rattle.alt_forest.specs.Counts.{exposed_count, tree_count, IsPlanted};
 ghost use Rattle.alt_forest.specs.Entries.{IsQueued};
-ghost use Rattle.alt_forest.specs.Standing.{IsStanding};
+ghost use Rattle.alt_forest.specs.TreeNodes.{HasTreeNodes};
 ghost use Rattle.augment.specs.Exchange.{IsExchanged};
 
-use crate::felling::fell;
+use crate::dissolving::fell;
 use crate::turning::turn;
 use alt_forest::Search;
 use base_types::{EdgeId, Steps};
@@ -21,14 +21,14 @@ use weighted_graph::Graph;
 /// of these trees out, and keeps their vertices for looks.
 pub(crate) fn exchange(search: &mut Search, e: EdgeId)
     requires sound { IsSound search.old }
-    requires standing { IsStanding search.old }
-    requires can { CanAugment (state_of search.old) e }
+    requires listed { HasTreeNodes search.old }
+    requires possible { CanAugment (state_of search.old) e }
     ensures sound { IsSound search.new }
-    ensures rest { search.new ≡ record search.old {
+    ensures frame { search.new ≡ record search.old {
       arena = record search.old.arena { motions = search.new.arena.motions };
       labels = search.new.labels;
       mates = search.new.mates;
-      standing = search.new.standing;
+      tree_nodes = search.new.tree_nodes;
       scanned = search.new.scanned;
     } }
     ensures exchanged { (c : CanAugment (state_of search.old) e)
@@ -57,15 +57,15 @@ pub(crate) fn exchange(search: &mut Search, e: EdgeId)
         × (a ≢ root_of (state_of search.old) c.one) × (a ≢ root_of (state_of search.old) c.other)) }
     ensures fewer { exposed_count (state_of search.new) + 2 ≡ exposed_count (state_of search.old) }
     ensures trees { tree_count (state_of search.new) + 2 ≡ tree_count (state_of search.old) }
-    ensures planted { IsPlanted (state_of search.old) → IsPlanted (state_of search.new) }
+    ensures all_rooted { IsPlanted (state_of search.old) → IsPlanted (state_of search.new) }
 {
     let (u, v, _) = search.graph.edge(e);
     let one = search.arena.outermost(u);
     let other = search.arena.outermost(v);
-    let one_seed = search.root_vertex(one);
-    let other_seed = search.root_vertex(other);
+    let one_tree_id = search.root_vertex(one);
+    let other_tree_id = search.root_vertex(other);
     turn(search, e, one, other);
-    fell(search, one_seed, other_seed);
+    fell(search, one_tree_id, other_tree_id);
 }
 
 /// Flips the path between the roots of the two trees that the tight edge `e` joins, so that both
@@ -76,20 +76,20 @@ pub(crate) fn exchange(search: &mut Search, e: EdgeId)
 /// memory.
 pub fn flip<L: Ledger>(search: &mut Search, graph: &Graph, e: EdgeId, steps: &mut Steps<L>)
     requires sound { IsSound search.old }
-    requires standing { IsStanding search.old }
-    requires same { graph.now ≡ search.old.graph }
-    requires can { CanAugment (state_of search.old) e }
+    requires listed { HasTreeNodes search.old }
+    requires same_graph { graph.now ≡ search.old.graph }
+    requires possible { CanAugment (state_of search.old) e }
     ensures sound { IsSound search.new }
-    ensures queued { IsQueued search.new }
-    ensures standing { IsStanding search.new }
+    ensures event_times { IsQueued search.new }
+    ensures listed { HasTreeNodes search.new }
     ensures labels { (a : ℕ) → label_at search.new.labels.items a ≡ Out }
-    ensures rest { search.new ≡ record search.old {
+    ensures frame { search.new ≡ record search.old {
       arena = record search.old.arena { motions = search.new.arena.motions };
       labels = search.new.labels;
       mates = search.new.mates;
       queue = search.new.queue;
       clock = pos 0;
-      standing = search.new.standing;
+      tree_nodes = search.new.tree_nodes;
       scanned = search.new.scanned;
     } }
 

@@ -10,11 +10,11 @@ ghost use Rattle.alt_forest.specs.Searches.{IsSound, state_of, label_at, edge_in
 ghost use Rattle.alt_forest.specs.Counts.{exposed_count, tree_count, IsPlanted};
 ghost use Rattle.alt_forest.specs.Entries.{IsQueued, IsQueuedBut, ends_around, entry_count};
 ghost use Rattle.alt_forest.specs.Entries.{out_ends};
-ghost use Rattle.alt_forest.specs.Standing.{IsStanding};
+ghost use Rattle.alt_forest.specs.TreeNodes.{HasTreeNodes};
 ghost use Rattle.augment.specs.Exchange.{IsExchanged};
 
 use crate::flips::exchange;
-use crate::sides::take_smaller_side;
+use crate::tree_sizes::take_smaller_side;
 use alt_forest::Search;
 use base_types::{EdgeId, Steps};
 use std::sync::ledger::Ledger;
@@ -22,9 +22,9 @@ use weighted_graph::Graph;
 
 /// Whether no node is listed.
 fn lists_none(search: &Search) -> bool
-    ensures { (result ≡ true) ↔ (search.now.standing.nodes ≡ []) }
+    ensures { (result ≡ true) ↔ (search.now.tree_nodes.nodes ≡ []) }
 {
-    search.standing.nodes().is_empty()
+    search.tree_nodes.nodes().is_empty()
 }
 
 /// Flips the path between the roots of the two trees that the edge joins, labels exactly the nodes
@@ -32,10 +32,10 @@ fn lists_none(search: &Search) -> bool
 /// if none is it ends as `clear` does.
 pub(crate) fn cut_trees(search: &mut Search, e: EdgeId) -> bool
     requires sound { IsSound search.old }
-    requires standing { IsStanding search.old }
-    requires can { CanAugment (state_of search.old) e }
+    requires listed { HasTreeNodes search.old }
+    requires possible { CanAugment (state_of search.old) e }
     ensures sound { IsSound search.new }
-    ensures standing { IsStanding search.new }
+    ensures listed { HasTreeNodes search.new }
     ensures cleared { (c : CanAugment (state_of search.old) e) (a : ℕ)
         → IsOutermost (state_of search.old) a
         → (root_of (state_of search.old) a ≡ root_of (state_of search.old) c.one)
@@ -46,13 +46,13 @@ pub(crate) fn cut_trees(search: &mut Search, e: EdgeId) -> bool
         → root_of (state_of search.old) a ≢ root_of (state_of search.old) c.one
         → root_of (state_of search.old) a ≢ root_of (state_of search.old) c.other
         → label_at search.new.labels.items a ≡ label_at search.old.labels.items a }
-    ensures rest { search.new ≡ record search.old {
+    ensures frame { search.new ≡ record search.old {
       arena = record search.old.arena { motions = search.new.arena.motions };
       labels = search.new.labels;
       mates = search.new.mates;
       queue = search.new.queue;
       clock = search.new.clock;
-      standing = search.new.standing;
+      tree_nodes = search.new.tree_nodes;
       scanned = search.new.scanned;
     } }
     ensures clock { search.new.clock ≡ (if result then search.old.clock else pos 0) }
@@ -71,15 +71,15 @@ pub(crate) fn cut_trees(search: &mut Search, e: EdgeId) -> bool
     ensures fewer { exposed_count (state_of search.new) + 2 ≡ exposed_count (state_of search.old) }
     ensures trees { tree_count (state_of search.new) + 2 ≡ tree_count (state_of search.old) }
     ensures left { (result ≡ false) ↔ (tree_count (state_of search.new) ≡ 0) }
-    ensures planted { IsPlanted (state_of search.old) → IsPlanted (state_of search.new) }
-    ensures queued { result ≡ false → IsQueued search.new }
+    ensures all_rooted { IsPlanted (state_of search.old) → IsPlanted (state_of search.new) }
+    ensures event_times { result ≡ false → IsQueued search.new }
     ensures none { result ≡ false → (a : ℕ) → label_at search.new.labels.items a ≡ Out }
-    ensures some { result ≡ true → length search.new.standing.nodes ≢ 0 }
+    ensures some { result ≡ true → length search.new.tree_nodes.nodes ≢ 0 }
     ensures lasts { result ≡ true → search.new ≡ record search.old {
       arena = record search.old.arena { motions = search.new.arena.motions };
       labels = search.new.labels;
       mates = search.new.mates;
-      standing = search.new.standing;
+      tree_nodes = search.new.tree_nodes;
       scanned = search.new.scanned;
     } }
     ensures exchanged { result ≡ true → (c : CanAugment (state_of search.old) e)
@@ -97,20 +97,21 @@ pub(crate) fn cut_trees(search: &mut Search, e: EdgeId) -> bool
 /// listed, if there are no more ends of edges at these.
 fn look_again<L: Ledger>(search: &mut Search, graph: &Graph, steps: &mut Steps<L>)
     requires sound { IsSound search.old }
-    requires standing { IsStanding search.old }
-    requires same { graph.now ≡ search.old.graph }
+    requires listed { HasTreeNodes search.old }
+    requires same_graph { graph.now ≡ search.old.graph }
     requires vertices { All (λ v. is_vertex search.old.graph.vertices v ≡ true)
         search.old.scanned.items }
-    requires few { ends_around search.old.graph search.old.scanned.items
+    requires size_limit { ends_around search.old.graph search.old.scanned.items
         ≤ 2 * length search.old.graph.edges }
-    requires queued { IsQueuedBut search.old search.old.scanned.items }
-    ensures rest { search.new
+    requires event_times { IsQueuedBut search.old search.old.scanned.items }
+    ensures frame { search.new
         ≡ record search.old { queue = search.new.queue; scanned = search.new.scanned } }
     ensures sound { IsSound search.new }
-    ensures queued { IsQueued search.new }
-    ensures standing { IsStanding search.new }
+    ensures event_times { IsQueued search.new }
+    ensures listed { HasTreeNodes search.new }
     ensures more { steps.old ≤ steps.new }
-    ensures around { steps.new ≤ steps.old + ends_around search.old.graph search.old.scanned.items }
+    ensures edge_ends { steps.new ≤ steps.old
+        + ends_around search.old.graph search.old.scanned.items }
     ensures count { entry_count search.new.queue + steps.old ≤ entry_count search.old.queue
         + steps.new }
 {
@@ -128,13 +129,13 @@ fn look_again<L: Ledger>(search: &mut Search, graph: &Graph, steps: &mut Steps<L
 /// `clear` does. It takes time linear in the edges at the two trees, and no memory.
 pub fn join<L: Ledger>(search: &mut Search, graph: &Graph, e: EdgeId, steps: &mut Steps<L>) -> bool
     requires sound { IsSound search.old }
-    requires queued { IsQueued search.old }
-    requires standing { IsStanding search.old }
-    requires same { graph.now ≡ search.old.graph }
-    requires can { CanAugment (state_of search.old) e }
+    requires event_times { IsQueued search.old }
+    requires listed { HasTreeNodes search.old }
+    requires same_graph { graph.now ≡ search.old.graph }
+    requires possible { CanAugment (state_of search.old) e }
     ensures sound { IsSound search.new }
-    ensures queued { IsQueued search.new }
-    ensures standing { IsStanding search.new }
+    ensures event_times { IsQueued search.new }
+    ensures listed { HasTreeNodes search.new }
 
     // Matches along the same paths, and dissolves the two trees that its edge joins alone: others
     // keep labels and event times.
@@ -148,13 +149,13 @@ pub fn join<L: Ledger>(search: &mut Search, graph: &Graph, e: EdgeId, steps: &mu
         → root_of (state_of search.old) a ≢ root_of (state_of search.old) c.one
         → root_of (state_of search.old) a ≢ root_of (state_of search.old) c.other
         → label_at search.new.labels.items a ≡ label_at search.old.labels.items a }
-    ensures rest { search.new ≡ record search.old {
+    ensures frame { search.new ≡ record search.old {
       arena = record search.old.arena { motions = search.new.arena.motions };
       labels = search.new.labels;
       mates = search.new.mates;
       queue = search.new.queue;
       clock = search.new.clock;
-      standing = search.new.standing;
+      tree_nodes = search.new.tree_nodes;
       scanned = search.new.scanned;
     } }
     ensures clock { search.new.clock ≡ (if result then search.old.clock else pos 0) }
@@ -175,14 +176,14 @@ pub fn join<L: Ledger>(search: &mut Search, graph: &Graph, e: EdgeId, steps: &mu
     // Exactly the nodes of those two trees are labelled free.
     ensures trees { tree_count (state_of search.new) + 2 ≡ tree_count (state_of search.old) }
     ensures left { (result ≡ false) ↔ (tree_count (state_of search.new) ≡ 0) }
-    ensures planted { IsPlanted (state_of search.old) → IsPlanted (state_of search.new) }
+    ensures all_rooted { IsPlanted (state_of search.old) → IsPlanted (state_of search.new) }
 
     // Counts one step for itself and inspects no more edge ends than there are at the vertices of
     // the two trees.
     ensures step { steps.old + 1 ≤ steps.new }
-    ensures around { steps.new + out_ends (state_of search.old)
+    ensures edge_ends { steps.new + out_ends (state_of search.old)
         ≤ steps.old + 1 + out_ends (state_of search.new) }
-    ensures looks { steps.new ≤ steps.old + 1 + 2 * length search.old.graph.edges }
+    ensures inspections { steps.new ≤ steps.old + 1 + 2 * length search.old.graph.edges }
     ensures count { entry_count search.new.queue + steps.old ≤ entry_count search.old.queue
         + steps.new }
 {

@@ -104,7 +104,7 @@ pub(crate) fn edge_for(edges: &[Option<EdgeId>], node: NodeId) -> Option<EdgeId>
 
 /// Keeps the mate of a node, if it is outermost, for all nodes that hold an end of it.
 fn mark_mate(arena: &Arena, graph: &Graph, mates: &mut Vec<Option<EdgeId>>, node: NodeId)
-    requires can { CanMark graph.now arena.now (edge_in mates.old.items) }
+    requires possible { CanMark graph.now arena.now (edge_in mates.old.items) }
     requires places { arena.now.vertex_count + most_blossoms arena.now.vertex_count
         < vec_len mates.old }
     ensures bare { IsBare graph.now arena.now.blossoms (edge_in mates.new.items) }
@@ -125,7 +125,7 @@ fn mark_mate(arena: &Arena, graph: &Graph, mates: &mut Vec<Option<EdgeId>>, node
 
 /// Keeps the mate of each outermost node for all nodes that hold an end of it.
 pub(crate) fn mark_mates(arena: &Arena, graph: &Graph, mates: &mut Vec<Option<EdgeId>>)
-    requires can { CanMark graph.now arena.now (edge_in mates.old.items) }
+    requires possible { CanMark graph.now arena.now (edge_in mates.old.items) }
     requires places { arena.now.vertex_count + most_blossoms arena.now.vertex_count
         < vec_len mates.old }
     ensures bare { IsBare graph.now arena.now.blossoms (edge_in mates.new.items) }

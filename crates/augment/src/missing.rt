@@ -4,7 +4,7 @@ ghost use Rattle.blossom_arena.specs.declared.label.Label.TheVariants.{Outer};
 ghost use Rattle.blossom_arena.specs.Family.{is_vertex, outermost};
 ghost use Rattle.alt_forest.specs.Searches.{IsSound, state_of, edge_in, label_at};
 ghost use Rattle.augment.specs.Opening.{LeadsTo};
-ghost use Rattle.outer_sets.specs.Matchings.{IsMatched as IsMatchedBy};
+ghost use Rattle.gallai_theory.specs.Matchings.{IsMatched as IsMatchedBy};
 ghost use Rattle.augment.specs.Matching.{mate_counts, AreVertexMates, MissesOneEach, MissesInstead};
 
 use crate::marking::{clear_children, mark_mates};

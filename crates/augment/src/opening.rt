@@ -13,7 +13,7 @@ ghost use Rattle.alt_forest.specs.Searches.{IsSound, state_of, edge_in};
 ghost use Rattle.alt_forest.specs.Counts.{IsMatched};
 ghost use Rattle.augment.specs.Matching.{IsVertexMate, AreVertexMates, MissesOneEach, mate_counts};
 ghost use Rattle.augment.specs.Matching.{leaving};
-ghost use Rattle.outer_sets.specs.Matchings.{IsMatched as IsMatchedBy};
+ghost use Rattle.gallai_theory.specs.Matchings.{IsMatched as IsMatchedBy};
 ghost use Rattle.augment.specs.Opening.{IsBare, IsSpread, CanOpen, CanUnpack, Opens, Unpacks};
 ghost use Rattle.augment.specs.Opening.{AreInner};
 ghost use Rattle.augment.specs.Opening.{links_before, links_after, spread_in, paired};
@@ -144,7 +144,7 @@ fn base_of(arena: &Arena, mates: &[Option<EdgeId>], b: NodeId, inner: NodeId) ->
 /// already, keeps it, and the others are paired round the circuit. Where the blossom has no mate,
 /// one child is left without one: the given one, and the first where 0 is given.
 fn open(arena: &Arena, graph: &Graph, mates: &mut Vec<Option<EdgeId>>, b: NodeId, inner: NodeId)
-    requires can { CanOpen graph.now arena.now (edge_in mates.old.items) b inner }
+    requires possible { CanOpen graph.now arena.now (edge_in mates.old.items) b inner }
     requires places { arena.now.vertex_count + most_blossoms arena.now.vertex_count
         < vec_len mates.old }
     ensures opens { Opens graph.now (older_than arena.now.blossoms b) b inner
@@ -175,7 +175,7 @@ fn entry_for(table: &[u32], node: NodeId) -> NodeId
 /// Opens all blossoms, the newest first. Of one that has no mate the child that `inner` has for it
 /// is left without one, and the first where it has none.
 pub(crate) fn open_all(arena: &Arena, graph: &Graph, mates: &mut Vec<Option<EdgeId>>, inner: &[u32])
-    requires can { CanUnpack graph.now arena.now (edge_in mates.old.items) }
+    requires possible { CanUnpack graph.now arena.now (edge_in mates.old.items) }
     requires places { arena.now.vertex_count + most_blossoms arena.now.vertex_count
         < vec_len mates.old }
     requires inner { AreInner arena.now.blossoms (λ b. slice_index inner.now b) }
@@ -223,7 +223,7 @@ pub fn unpack(search: &mut Search)
     ensures outermost { (a : ℕ) → IsOutermost (state_of search.old) a
         → edge_in search.new.mates.items a ≡ edge_in search.old.mates.items a }
     ensures queue { search.new.queue ≡ search.old.queue }
-    ensures rest { search.new ≡ record search.old { mates = search.new.mates } }
+    ensures frame { search.new ≡ record search.old { mates = search.new.mates } }
 {
     clear_children(&search.arena, &mut search.mates);
     mark_mates(&search.arena, &search.graph, &mut search.mates);

@@ -13,8 +13,8 @@ use blossom_arena::NodeId;
 /// Changes the mates on the way from a node, which takes the edge, up to the root of its tree.
 fn climb(search: &mut Search, e: EdgeId, start: NodeId)
     requires shape { HasShape search.old }
-    requires can { CanClimb (state_of search.old) e start }
-    ensures rest { search.new ≡ record search.old { mates = search.new.mates } }
+    requires possible { CanClimb (state_of search.old) e start }
+    ensures frame { search.new ≡ record search.old { mates = search.new.mates } }
     ensures len { vec_len search.new.mates ≡ vec_len search.old.mates }
     ensures climbed { (h : CanClimb (state_of search.old) e start)
         → IsClimbed h.was h.base (edge_in search.old.mates.items) (edge_in search.new.mates.items) e
@@ -39,7 +39,7 @@ fn uproot(search: &mut Search, far: NodeId)
     requires sound { IsSound search.old }
     requires is { IsOutermost (state_of search.old) far }
     requires outer { (state_of search.old).label far ≡ Outer }
-    ensures rest { search.new ≡ record search.old { mates = search.new.mates } }
+    ensures frame { search.new ≡ record search.old { mates = search.new.mates } }
     ensures len { vec_len search.new.mates ≡ vec_len search.old.mates }
     ensures uprooted { IsUprooted (state_of search.old) (edge_in search.new.mates.items) far }
 {
@@ -87,7 +87,7 @@ pub(crate) fn uproot_in(search: &Search, mates: &mut Vec<Option<EdgeId>>, far: N
 pub(crate) fn turn(search: &mut Search, e: EdgeId, near: NodeId, far: NodeId)
     requires sound { IsSound search.old }
     requires ends { JoinsTwoTrees (state_of search.old) e near far }
-    ensures rest { search.new ≡ record search.old { mates = search.new.mates } }
+    ensures frame { search.new ≡ record search.old { mates = search.new.mates } }
     ensures len { vec_len search.new.mates ≡ vec_len search.old.mates }
     ensures turned { IsTurned (state_of search.old) (edge_in search.new.mates.items) e near far }
 {

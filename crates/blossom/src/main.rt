@@ -1,12 +1,12 @@
 //! The program `blossom`: `match_cli::run` over the words, the input and the output of a process.
-//! It depends on `match_cli`, `text_check` and `mb_base`. It promises that the answer is one that
+//! It depends on `match_cli`, `check_text` and `mb_base`. It promises that the answer is one that
 //! `run` gives to these words, with no step counted before, and that the exit status is that of the
 //! answer. What the operating system does with standard input and output is trusted.
 #![tactic(auto)]
 
 ghost use Rattle.std.specs.Prelude.{◌≡◌, ◌<◌, map, string_bytes};
 ghost use Rattle.std.specs.Process.{exit_status};
-ghost use Rattle.text_check.specs.Codes.{code_of};
+ghost use Rattle.check_text.specs.Codes.{code_of};
 ghost use Rattle.match_cli.specs.Runs.{Around, Runs};
 
 use match_cli::{Status, run};

@@ -138,7 +138,7 @@ module _ (a : Inside) (duals : DualTable) (partition : SetTables) (parents older
     pub sound_after : IsSound after
     sound_after = record {
       family = record {
-        few = s.family.few;
+        size_limit = s.family.size_limit;
         nested = subst (IsNested n) (sym blossoms_after) nested_after;
         duals = subst (λ (t : DualTable). HasDuals n t.values (blossoms_of after)) (sym h.duals) (subst (HasDuals n a.duals.values) (sym blossoms_after) (record {
           one_each = s.family.duals.one_each;

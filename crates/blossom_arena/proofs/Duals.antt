@@ -31,7 +31,7 @@ pub sound_with_duals : (a : Inside) (duals : DualTable) (p : SetTables) → IsSo
     → HasMotions a.vertex_count duals.motions (blossoms_of a) → length p.sets ≡ a.vertex_count + 1
     → IsPlacement a.vertex_count (core_at a.vertex_count a.kept) (blossoms_of a) (dual_at duals.values) (placement_of p) → IsSound (record a { duals = duals; partition = p })
 sound_with_duals a duals p s h m len placement = record {
-  family = record { few = s.family.few; nested = s.family.nested; duals = h; motions = m };
+  family = record { size_limit = s.family.size_limit; nested = s.family.nested; duals = h; motions = m };
   places = record {
     parents = s.places.parents;
     nexts = s.places.nexts;

@@ -19,7 +19,7 @@ use Rattle.blossom_arena.proofs.Nested.{vertex_range}
 use Rattle.blossom_arena.proofs.Sound.{rings}
 
 pub record IsFresh (a : Inside) : Type 0 where
-  pub few : a.vertex_count ≤ GRAPH_VERTEX_LIMIT
+  pub size_limit : a.vertex_count ≤ GRAPH_VERTEX_LIMIT
   pub slots : a.kept.slots ≡ []
   pub room : a.kept.capacity ≡ most_blossoms a.vertex_count
   pub duals : a.duals ≡ empty_table (a.vertex_count + most_blossoms a.vertex_count + 1)
@@ -77,7 +77,7 @@ module _ (a : Inside) (h : IsFresh a) where
   pub fresh_sound : IsSound a
   fresh_sound = record {
     family = record {
-      few = h.few;
+      size_limit = h.size_limit;
       nested = subst (IsNested n) (sym no_blossoms) tt;
       duals = subst (HasDuals n a.duals.values) (sym no_blossoms) (subst (λ (t : DualTable). HasDuals n t.values []) (sym h.duals) no_duals);
       motions = subst (HasMotions n a.duals.motions) (sym no_blossoms) (subst (λ (t : DualTable). HasMotions n t.motions []) (sym h.duals) no_motions);

@@ -206,7 +206,7 @@ module _ (a : Inside) (duals : DualTable) (partition : SetTables) (parents nexts
     pub sound_after : IsSound after
     sound_after = record {
       family = record {
-        few = s.family.few;
+        size_limit = s.family.size_limit;
         nested = subst (IsNested n) (sym blossoms_after) (next, s.family.nested);
         duals = subst (HasDuals n duals.values) (sym blossoms_after) duals_after;
         motions = subst (HasMotions n duals.motions) (sym blossoms_after) motions_after;

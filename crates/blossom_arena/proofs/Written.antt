@@ -38,10 +38,10 @@ module _ (a : Inside) (f : Family) (ring : List Link) (s : IsSound a) (view : fa
   room_left = omega (arith, (room_for_circuit n bs ring s.family.nested c).0, blossoms_len a, s.room)
 
   pub circuit_few : length ring ≤ GRAPH_VERTEX_LIMIT
-  circuit_few = omega (arith, (room_for_circuit n bs ring s.family.nested c).1, s.family.few)
+  circuit_few = omega (arith, (room_for_circuit n bs ring s.family.nested c).1, s.family.size_limit)
 
   pub sizes_few : joined_size (runs_of n a.kept ring) ≤ GRAPH_VERTEX_LIMIT
-  sizes_few = omega (arith, (circuit_joins a ring s c).1, union_few n bs ring s.family.nested c, s.family.few)
+  sizes_few = omega (arith, (circuit_joins a ring s c).1, union_few n bs ring s.family.nested c, s.family.size_limit)
 
   pub nodes_within : (m : ℕ) → n + most_blossoms n < m → AllByRecursion (λ (l : Link). l.node < m) ring
   nodes_within m enough = circuit_places n m bs ring s.family.nested c enough

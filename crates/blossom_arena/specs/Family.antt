@@ -115,7 +115,7 @@ pub record IsOddSet (n : ℕ) (set : List ℕ) : Type 0 where
 
 -- what an arena keeps
 pub record IsFamily (f : Family) : Type 0 where
-  pub few : f.vertex_count ≤ GRAPH_VERTEX_LIMIT
+  pub size_limit : f.vertex_count ≤ GRAPH_VERTEX_LIMIT
   pub nested : IsNested f.vertex_count f.blossoms
   pub duals : HasDuals f.vertex_count f.duals f.blossoms
   pub motions : HasMotions f.vertex_count f.motions f.blossoms

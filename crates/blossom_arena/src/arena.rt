@@ -82,7 +82,7 @@ impl Arena {
         // A family of blossoms is odd and laminar with each dual within 10^18, and each call is one
         // equation on the whole family.
         ensures family { IfOk result (λ f. f ≡ empty_family n) }
-        ensures good { IfOk result IsFamily }
+        ensures is_family { IfOk result IsFamily }
     {
         let count = n as usize;
         let room = n.saturating_sub(1) as usize / 2;
@@ -111,7 +111,7 @@ impl Arena {
     /// How many vertices there are.
     pub fn vertex_count(&self) -> u32
         ensures count { result ≡ self.now.vertex_count }
-        ensures good { IsFamily self.now }
+        ensures is_family { IsFamily self.now }
     {
         self.vertex_count
     }
@@ -119,7 +119,7 @@ impl Arena {
     /// The greatest number that a node can have.
     pub fn node_limit(&self) -> u32
         ensures limit { result ≡ self.now.vertex_count + most_blossoms self.now.vertex_count }
-        ensures good { IsFamily self.now }
+        ensures is_family { IsFamily self.now }
     {
         self.vertex_count + self.vertex_count.saturating_sub(1) / 2
     }
@@ -127,7 +127,7 @@ impl Arena {
     /// Whether this is the node of a blossom. Any number may be asked for.
     pub fn is_blossom(&self, node: NodeId) -> bool
         ensures blossom { result ≡ holds (names_of self.now.blossoms) node }
-        ensures good { IsFamily self.now }
+        ensures is_family { IsFamily self.now }
     {
         let number = node.number();
         if number <= self.vertex_count {
@@ -139,7 +139,7 @@ impl Arena {
     /// Whether this is a vertex or a blossom. Any number may be asked for.
     pub fn is_node(&self, node: NodeId) -> bool
         ensures node { result ≡ is_node self.now.vertex_count self.now.blossoms node }
-        ensures good { IsFamily self.now }
+        ensures is_family { IsFamily self.now }
     {
         let number = node.number();
         if number <= self.vertex_count {
@@ -152,7 +152,7 @@ impl Arena {
     /// asked for.
     pub fn is_outermost(&self, node: NodeId) -> bool
         ensures outermost { result ≡ is_outermost self.now.vertex_count self.now.blossoms node }
-        ensures good { IsFamily self.now }
+        ensures is_family { IsFamily self.now }
     {
         let number = node.number();
         if number as usize >= self.parents.len() {
@@ -167,7 +167,7 @@ impl Arena {
 
         // The outermost node that holds a vertex.
         ensures node { result ≡ outermost self.now.blossoms v }
-        ensures good { IsFamily self.now }
+        ensures is_family { IsFamily self.now }
     {
         NodeId::new(self.partition.outermost(v.number()))
     }
@@ -176,7 +176,7 @@ impl Arena {
     pub fn dual(&self, node: NodeId) -> i64
         requires { is_node self.now.vertex_count self.now.blossoms node ≡ true }
         ensures dual { result ≡ dual_at self.now.duals node }
-        ensures good { IsFamily self.now }
+        ensures is_family { IsFamily self.now }
     {
         self.duals.get(node.number() as usize)
     }
@@ -191,7 +191,7 @@ impl Arena {
         // The duals of all nodes that hold a vertex, added up in 64 bits.
         ensures near_sum { result ≡ dual_at self.now.duals vertex
             +ℤ held_by (dual_at self.now.duals) self.now.blossoms vertex }
-        ensures good { IsFamily self.now }
+        ensures is_family { IsFamily self.now }
     {
         let inner = self.partition.inner(vertex.number());
         inner.wrapping_add(self.dual(self.outermost(vertex)))
@@ -205,7 +205,7 @@ impl Arena {
         ensures dual_sum { result ≡ dual_at self.now.duals v
             +ℤ held_by (dual_at self.now.duals) self.now.blossoms v }
         ensures in_range { IsDualSum result }
-        ensures good { IsFamily self.now }
+        ensures is_family { IsFamily self.now }
     {
         total(&self.duals, self.chain(v))
     }
@@ -218,7 +218,7 @@ impl Arena {
         requires not_below { self.old.vertex_count < node
             → pos 0 ≤ℤ (dual_at self.old.duals node +ℤ d) }
         ensures family { self.new ≡ raised self.old node d }
-        ensures good { IsFamily self.new }
+        ensures is_family { IsFamily self.new }
     {
         let number = node.number();
         self.duals.raise(number as usize, d);
@@ -239,7 +239,7 @@ impl Arena {
     pub fn move_as(&mut self, node: NodeId, label: Label)
         requires { is_outermost self.old.vertex_count self.old.blossoms node ≡ true }
         ensures family { self.new ≡ moving self.old node label }
-        ensures good { IsFamily self.new }
+        ensures is_family { IsFamily self.new }
     {
         self.duals.move_as(node.number() as usize, label);
     }
@@ -247,8 +247,8 @@ impl Arena {
     /// Lets no node move any more, in time linear in the nodes. No dual changes.
     pub fn rest(&mut self)
         ensures motions { (a : ℕ) → label_at self.new.motions a ≡ Out }
-        ensures rest { self.new ≡ record self.old { motions = self.new.motions } }
-        ensures good { IsFamily self.new }
+        ensures frame { self.new ≡ record self.old { motions = self.new.motions } }
+        ensures is_family { IsFamily self.new }
     {
         self.duals.rest();
     }
@@ -267,8 +267,8 @@ impl Arena {
             → pos 0 ≤ℤ (dual_at self.old.duals a +ℤ share d (label_at self.old.motions a)) }
         ensures duals { (a : ℕ) → dual_at self.new.duals a ≡ dual_at self.old.duals a
             +ℤ gain self.old d a }
-        ensures rest { self.new ≡ record self.old { duals = self.new.duals } }
-        ensures good { IsFamily self.new }
+        ensures frame { self.new ≡ record self.old { duals = self.new.duals } }
+        ensures is_family { IsFamily self.new }
     {
         self.duals.advance(d);
     }
@@ -280,7 +280,7 @@ impl Arena {
         // The circuit of a blossom, its members and the chain of nodes above a vertex as exact
         // lists (also `members`, `chain`).
         ensures ring { result ≡ ring_of self.now.blossoms b }
-        ensures good { IsFamily self.now }
+        ensures is_family { IsFamily self.now }
     {
         let kept = find_kept(&self.kept, self.vertex_count, b.number());
         Ring::of(&self.nexts, &self.edges, kept.first, kept.links)
@@ -291,7 +291,7 @@ impl Arena {
     pub fn members(&self, node: NodeId) -> Members<'_>
         requires { is_node self.now.vertex_count self.now.blossoms node ≡ true }
         ensures members { result ≡ members_of self.now.blossoms node }
-        ensures good { IsFamily self.now }
+        ensures is_family { IsFamily self.now }
     {
         Members::of(
             &self.followers,
@@ -303,7 +303,7 @@ impl Arena {
     pub fn chain(&self, v: VertexId) -> Chain<'_>
         requires { is_vertex self.now.vertex_count v ≡ true }
         ensures chain { result ≡ chain_of self.now.blossoms v }
-        ensures good { IsFamily self.now }
+        ensures is_family { IsFamily self.now }
     {
         Chain::of(&self.parents, v.number())
     }
@@ -316,7 +316,7 @@ impl Arena {
 
         // Which child of a blossom holds a vertex.
         ensures child { result ≡ child_holding self.now.blossoms b v }
-        ensures good { IsFamily self.now }
+        ensures is_family { IsFamily self.now }
     {
         NodeId::new(child_below(&self.parents, v.number(), b.number()))
     }
@@ -324,7 +324,7 @@ impl Arena {
     /// The blossoms, newest first.
     pub fn blossoms(&self) -> Blossoms<'_>
         ensures blossoms { result ≡ names_of self.now.blossoms }
-        ensures good { IsFamily self.now }
+        ensures is_family { IsFamily self.now }
     {
         Blossoms::of(&self.older, self.older[0], self.kept.len() as u32)
     }
@@ -338,7 +338,7 @@ impl Arena {
         ensures above { self.old.vertex_count < result }
         ensures within { result ≤ self.old.vertex_count + most_blossoms self.old.vertex_count }
         ensures family { self.new ≡ shrunk self.old result circuit.now }
-        ensures good { IsFamily self.new }
+        ensures is_family { IsFamily self.new }
     {
         let run = join(&mut self.followers, &self.kept, self.vertex_count, circuit);
         let first = node_at(circuit, 0, 0);
@@ -371,7 +371,7 @@ impl Arena {
         requires outermost { is_outermost self.old.vertex_count self.old.blossoms b ≡ true }
         requires dual { dual_at self.old.duals b ≡ pos 0 }
         ensures family { self.new ≡ dissolved self.old b }
-        ensures good { IsFamily self.new }
+        ensures is_family { IsFamily self.new }
     {
         let node = b.number();
         let kept = self.kept.remove((node - (self.vertex_count + 1)) as usize);
@@ -393,7 +393,7 @@ impl Arena {
     /// Takes away all blossoms and makes all duals 0, which rest.
     pub fn clear(&mut self)
         ensures family { self.new ≡ empty_family self.old.vertex_count }
-        ensures good { IsFamily self.new }
+        ensures is_family { IsFamily self.new }
     {
         self.kept.clear();
         self.duals.wipe();

@@ -63,7 +63,7 @@ pub(crate) fn narrowed(d: i128) -> i64
 /// The duals of the nodes of a chain, added up.
 pub(crate) fn total(duals: &Duals, chain: Chain<'_>) -> i128
     requires places { AllByRecursion (λ a. a < length duals.now.values) chain }
-    requires few { length chain ≤ GRAPH_VERTEX_LIMIT }
+    requires size_limit { length chain ≤ GRAPH_VERTEX_LIMIT }
     ensures total { result ≡ total_of (dual_at duals.now.values) chain.entry }
     ensures in_range { IsDualSum result }
 {

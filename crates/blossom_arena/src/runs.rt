@@ -119,7 +119,7 @@ pub(crate) fn join(followers: &mut Vec<u32>, kept: &Slab<Kept>, count: u32, circ
     requires some { 0 < vec_len followers.old }
     requires within { AllByRecursion (λ (r : Run). r.tail < vec_len followers.old)
         (runs_of count kept.now circuit.now) }
-    requires few { joined_size (runs_of count kept.now circuit.now) < 2 ^ 32 }
+    requires size_limit { joined_size (runs_of count kept.now circuit.now) < 2 ^ 32 }
     ensures items { followers.new.items
         ≡ joined followers.old.items 0 (runs_of count kept.now circuit.now) }
     ensures len { vec_len followers.new ≡ vec_len followers.old }

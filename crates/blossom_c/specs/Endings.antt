@@ -2,12 +2,13 @@
 use Rattle.std.specs.Prelude.{◌≡◌, ℕ, ◌⊎◌, List, length}
 use Rattle.mb_problem.specs.declared.kind.Kind.{Kind}
 use Rattle.mb_problem.specs.Kinds.{kind_number}
-use Rattle.text_check.specs.declared.status.Status.{Status}
+use Rattle.check_text.specs.declared.status.Status.{Status}
 use Rattle.match_cli.specs.Runs.{TellsTrue, IsAcceptedBehind, IsComplete}
 use Rattle.match_cli.specs.declared.task.Task.{Task}
 use Rattle.match_cli.specs.Calls.{command_for, Calls}
-use Rattle.blossom_c.specs.declared.ending.Ending.{Ending}
-use Rattle.blossom_c.specs.declared.ending.Ending.TheVariants.{Answered, ShortBuffer, NoSuchCall}
+use Rattle.blossom_c.specs.declared.call_status.CallStatus.{CallStatus}
+use Rattle.blossom_c.specs.declared.call_status.CallStatus.TheVariants.{Answered, ShortBuffer}
+use Rattle.blossom_c.specs.declared.call_status.CallStatus.TheVariants.{NoSuchCall}
 use Rattle.blossom_c.specs.Numbers.{number_of_task, number_of_ending, IsUnnumbered}
 use Rattle.blossom_c.specs.Buffers.{StandsIn, IsTooLong}
 
@@ -21,7 +22,7 @@ pub record IsAnswer (task : Task) (kind : Kind) (input text : List ℕ) (status 
 
 -- For a task and a kind: the answer stands in the buffer, or it is too long for it. Either way its
 -- length is told.
-abbrev pub Ends : Task → Kind → List ℕ → List ℕ → List ℕ → ℕ → Ending → Type 0
+abbrev pub Ends : Task → Kind → List ℕ → List ℕ → List ℕ → ℕ → CallStatus → Type 0
 Ends task kind input before after used (Answered status) = (text : List ℕ)
     × IsAnswer task kind input text status × (used ≡ length text) × StandsIn text before after
 Ends task kind input before after used ShortBuffer = (text : List ℕ) × (status : Status)
@@ -29,7 +30,7 @@ Ends task kind input before after used ShortBuffer = (text : List ℕ) × (statu
 Ends task kind input before after used NoSuchCall = ⊥
 
 -- For the numbers of a task and a kind; if no task or no kind has the number, nothing is done.
-abbrev pub EndsNumbered : ℕ → ℕ → List ℕ → List ℕ → List ℕ → ℕ → Ending → Type 0
+abbrev pub EndsNumbered : ℕ → ℕ → List ℕ → List ℕ → List ℕ → ℕ → CallStatus → Type 0
 EndsNumbered task kind input before after used NoSuchCall = (IsUnnumbered number_of_task task
     ⊎ IsUnnumbered kind_number kind) × (used ≡ 0) × (after ≡ before)
 EndsNumbered task kind input before after used ending = (t : Task) × (k : Kind)
@@ -37,5 +38,5 @@ EndsNumbered task kind input before after used ending = (t : Task) × (k : Kind)
 
 -- the number tells the ending
 abbrev pub Tells : ℕ → ℕ → List ℕ → List ℕ → List ℕ → ℕ → ℕ → Type 0
-Tells task kind input before after used number = (ending : Ending)
+Tells task kind input before after used number = (ending : CallStatus)
     × (number ≡ number_of_ending ending) × EndsNumbered task kind input before after used ending

@@ -1,10 +1,11 @@
 -- The numbers of tasks and endings, by which C names them beside kinds.
 use Rattle.std.specs.Prelude.{◌≡◌, ℕ, Option, None, Some}
-use Rattle.text_check.specs.Codes.{code_of}
+use Rattle.check_text.specs.Codes.{code_of}
 use Rattle.match_cli.specs.declared.task.Task.{Task}
 use Rattle.match_cli.specs.declared.task.Task.TheVariants.{Solve, SolveBriefly, Check}
-use Rattle.blossom_c.specs.declared.ending.Ending.{Ending}
-use Rattle.blossom_c.specs.declared.ending.Ending.TheVariants.{Answered, ShortBuffer, NoSuchCall}
+use Rattle.blossom_c.specs.declared.call_status.CallStatus.{CallStatus}
+use Rattle.blossom_c.specs.declared.call_status.CallStatus.TheVariants.{Answered, ShortBuffer}
+use Rattle.blossom_c.specs.declared.call_status.CallStatus.TheVariants.{NoSuchCall}
 
 abbrev pub number_of_task : Task → ℕ
 number_of_task Solve = 1
@@ -12,7 +13,7 @@ number_of_task SolveBriefly = 2
 number_of_task Check = 3
 
 -- the exit statuses of the program, and two beyond them
-abbrev pub number_of_ending : Ending → ℕ
+abbrev pub number_of_ending : CallStatus → ℕ
 number_of_ending (Answered status) = code_of status
 number_of_ending ShortBuffer = 9
 number_of_ending NoSuchCall = 10

@@ -11,7 +11,7 @@ ghost use Rattle.blossom_c.specs.declared.array_ending.ArrayEnding.TheVariants.{
 
 use crate::array_ending::ArrayEnding;
 use crate::buffer::put_numbers;
-use crate::numbers::{kind_numbered, solving_numbered};
+use crate::call_numbers::{kind_numbered, solving_numbered};
 use array_call::{ArrayAnswer, InstanceArrays, answer_to, check_to, size_to};
 use mb_base::Steps;
 use mb_problem::Kind;

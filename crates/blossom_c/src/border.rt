@@ -2,8 +2,8 @@ ghost use Rattle.std.specs.Prelude.{◌≡◌, ◌<◌};
 ghost use Rattle.blossom_c.specs.Endings.{Ends, EndsNumbered, Tells};
 
 use crate::buffer::put;
-use crate::ending::Ending;
-use crate::numbers::{kind_numbered, task_numbered};
+use crate::call_numbers::{kind_numbered, task_numbered};
+use crate::call_status::CallStatus;
 use match_cli::{Task, call};
 use mb_base::Steps;
 use mb_problem::Kind;
@@ -20,7 +20,7 @@ fn answer<L: Ledger>(
     input: &[u8],
     output: &mut [u8],
     used: &mut usize,
-) -> Ending
+) -> CallStatus
     requires name { blank.name ≡ L.name }
     requires parts { blank.parts ≡ L.parts }
     requires some { 0 < blank.parts }
@@ -30,9 +30,9 @@ fn answer<L: Ledger>(
     let answer = call(alloc, task, kind, input, &mut steps);
     *used = answer.text.len();
     if put(&answer.text, output) {
-        Ending::Answered(answer.status)
+        CallStatus::Answered(answer.status)
     } else {
-        Ending::ShortBuffer
+        CallStatus::ShortBuffer
     }
 }
 
@@ -44,16 +44,16 @@ fn answer_numbered(
     input: &[u8],
     output: &mut [u8],
     used: &mut usize,
-) -> Ending
+) -> CallStatus
     ensures { EndsNumbered task kind input.now output.old output.new used.new result }
 {
     let Some(task) = task_numbered(task) else {
         *used = 0;
-        return Ending::NoSuchCall;
+        return CallStatus::NoSuchCall;
     };
     let Some(kind) = kind_numbered(kind) else {
         *used = 0;
-        return Ending::NoSuchCall;
+        return CallStatus::NoSuchCall;
     };
     answer::<Brand>(Blank::new(1), alloc, task, kind, input, output, used)
 }

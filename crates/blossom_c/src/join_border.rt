@@ -30,7 +30,7 @@ fn answer_sets<L: Ledger>(
     requires name { blank.name ≡ L.name }
     requires parts { blank.parts ≡ L.parts }
     requires some { 0 < blank.parts }
-    requires plain { arrays.now.values.now ≡ [] }
+    requires loopless { arrays.now.values.now ≡ [] }
     ensures { Ends (GivesJoins (arrays_of arrays.now) starts.now terminals.now) output.old
         output.new used.new result }
 {

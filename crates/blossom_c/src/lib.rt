@@ -8,9 +8,9 @@ mod array_border;
 mod array_ending;
 mod border;
 mod buffer;
-mod ending;
+mod call_numbers;
+mod call_status;
 mod join_border;
-mod numbers;
 
 pub use array_border::{blossom_certificate_size, blossom_check_arrays, blossom_solve_arrays};
 pub use border::{blossom_abi, blossom_call};

@@ -59,7 +59,7 @@ module _ (g : Multigraph) (ws : List ℤ) (are : AreWeights g ws) where
 pub light-push : (g : Multigraph) (w : ℤ) (k : ℕ) (numbers : List ℕ) → IsEdgeNumber g (k + 1) → (edge_of g (k + 1)).w ≤ℤ w → AreLight g w k numbers
     → AreLight g w (k + 1) (numbers ++ (k + 1) ∷ [])
 light-push g w k numbers is light are = record {
-  few = omega (arith, are.few, length_push numbers (k + 1));
+  size_limit = omega (arith, are.size_limit, length_push numbers (k + 1));
   each = All-push (λ e. IsEdgeNumber g e × ((edge_of g e).w ≤ℤ w)) numbers (k + 1) are.each (is, light);
   whole = λ e low high h. holds-push numbers (k + 1) e ∙ elim (cases_eq (k + 1) e) [
     | inl same ↦ or_right (holds numbers e) _ (eq-eqb (k + 1) e same)

@@ -23,9 +23,9 @@ bars_start : (g : Multigraph) (ws : List ℤ) (t : ℕ) → IsGraph g → AreWei
 bars_start g ws t good are at = record {
   vertex_set = record { ascending = λ k b. absurd (omega (arith, b)); in_range = All-nil (λ v. (1 ≤ v) × (v ≤ g.vertices)) };
   lighter = λ b. loose-barrier (lighter_than (weight_at ws t) g) at.vertex (lighter-graph g (weight_at ws t) good)
-      (lighter-loose g (weight_at ws t) at.vertex (λ e is on light. none-before g ws are t e at.bound is at.below (at.least e is on) (λ _. light) at.few)) at.low at.high;
+      (lighter-loose g (weight_at ws t) at.vertex (λ e is on light. none-before g ws are t e at.bound is at.below (at.least e is on) (λ _. light) at.size_limit)) at.low at.high;
   whole = λ last. loose-barrier g at.vertex good (λ e is. elim (cases_Bool (touches (edge_of g e) at.vertex)) [
-    | inl on ↦ absurd (none-before g ws are t e at.bound is at.below (at.least e is on) (λ b. absurd (omega (arith, b, last))) at.few)
+    | inl on ↦ absurd (none-before g ws are t e at.bound is at.below (at.least e is on) (λ b. absurd (omega (arith, b, last))) at.size_limit)
     | inr off ↦ off
   ]) at.low at.high;
 }
@@ -88,7 +88,7 @@ tight g ws t es set good plain up barrier =
 pub started : (g : Multigraph) (ws : List ℤ) (r : Range) (t : ℕ) → IsGraph g → AreWeights g ws → IsStart g ws t → r.low ≡ t → r.high ≡ length ws → r.barrier.items ≡ []
     → IsRange g ws r
 started g ws r t good are at low high none = record {
-  order = omega (arith, low, high, at.few);
+  order = omega (arith, low, high, at.size_limit);
   end = omega (arith, high);
   bars = rw (low, none) (bars_start g ws t good are at);
   matched = λ b. absurd (omega (arith, b, high));
@@ -127,7 +127,7 @@ plain_limits i g same network = rw same record {
 pub plain_few : (i : Network) (g : Multigraph) (ws : List ℤ) → g ≡ plain_graph i → IsNetwork i → AreWeights g ws → length ws ≤ EDGE_LIMIT
 plain_few i g ws same network are =
     let size : length g.edges ≡ link_count i = ap (λ (h : Multigraph). length h.edges) same ∙ plain-length i in
-    omega (arith, are.few, network.few_edges, size, links-few i (length i.edges))
+    omega (arith, are.size_limit, network.few_edges, size, links-few i (length i.edges))
 
 pub plain_paid : (i : Network) (g : Multigraph) (before after : ℕ) → g ≡ plain_graph i → after ≤ before + 17 * most_steps (size_of_graph g)
     → after ≤ before + 17 * most_steps (size_of BottleneckKind i)
@@ -145,11 +145,11 @@ fewer_steps g numbers few =
 pub record IsHalving (g : Multigraph) (ws : List ℤ) (r : Range) (start steps most : ℕ) : Type 0 where
   pub range : IsRange g ws r
   pub left : ℕ
-  pub small : r.high - r.low < 2 ^ left
+  pub value_limit : r.high - r.low < 2 ^ left
   pub paid : steps + left * most ≤ start + 16 * most
 
 pub halving_start : (g : Multigraph) (ws : List ℤ) (r : Range) (start most : ℕ) → IsRange g ws r → r.high - r.low < 2 ^ 16 → IsHalving g ws r start start most
-halving_start g ws r start most range few = record { range = range; left = 16; small = few; paid = omega arith }
+halving_start g ws r start most range few = record { range = range; left = 16; value_limit = few; paid = omega arith }
 
 -- one search more, and at most half the width
 halving_step : (old new start before after most left : ℕ) → old < 2 ^ left → before + left * most ≤ start + 16 * most → 1 ≤ old → 2 * new ≤ old → after ≤ before + most
@@ -161,11 +161,11 @@ pub halving_more : (g : Multigraph) (ws : List ℤ) (old new : Range) (middle st
     → middle ≡ old.low + (old.high - old.low) / 2 → IsNarrowed g ws middle old new → after ≤ before + most → IsHalving g ws new start after most
 halving_more g ws old new middle start before after most is more at narrowed once =
     let width = narrowed.narrow ((old.high - old.low) / 2) (omega (arith, at)) (omega (arith, at, more)) in
-    let step = halving_step (old.high - old.low) (new.high - new.low) start before after most is.left is.small is.paid (omega (arith, more)) (omega (arith, width)) once in
-    record { range = narrowed.range; left = step.0; small = step.1; paid = step.2 }
+    let step = halving_step (old.high - old.low) (new.high - new.low) start before after most is.left is.value_limit is.paid (omega (arith, more)) (omega (arith, width)) once in
+    record { range = narrowed.range; left = step.0; value_limit = step.1; paid = step.2 }
 
 pub halving_once : (g : Multigraph) (ws : List ℤ) (r : Range) (start before after most : ℕ) → IsHalving g ws r start before most → r.low < r.high → after ≤ before + most
     → after ≤ start + 16 * most
 halving_once g ws r start before after most is more once =
-    let step = halving_step (r.high - r.low) 0 start before after most is.left is.small is.paid (omega (arith, more)) (omega arith) once in
+    let step = halving_step (r.high - r.low) 0 start before after most is.left is.value_limit is.paid (omega (arith, more)) (omega arith) once in
     omega (arith, step.2)

@@ -29,13 +29,13 @@ numbers_in numbers = map (λ e. slice_index numbers (e - 1))
 
 -- the numbers of those of the first k edges that weigh at most w
 pub record AreLight (g : Multigraph) (w : ℤ) (k : ℕ) (numbers : List ℕ) : Type 0 where
-  pub few : length numbers ≤ k
+  pub size_limit : length numbers ≤ k
   pub each : All (λ e. IsEdgeNumber g e × ((edge_of g e).w ≤ℤ w)) numbers
   pub whole : (e : ℕ) → 1 ≤ e → e ≤ k → (edge_of g e).w ≤ℤ w → holds numbers e ≡ true
 
 -- the different weights of the edges, ascending
 pub record AreWeights (g : Multigraph) (weights : List ℤ) : Type 0 where
-  pub few : length weights ≤ length g.edges
+  pub size_limit : length weights ≤ length g.edges
   pub ascending : AllPairs (λ a b. int_lt a b ≡ true) weights
   pub whole : (e : ℕ) → IsEdgeNumber g e → Contains weights (edge_of g e).w
 
@@ -55,7 +55,7 @@ IsLeastAt g v bound = (e : ℕ) → IsEdgeNumber g e → touches (edge_of g e) v
 
 -- a place before which all weights are below a bound that the edges at some vertex keep
 pub record IsStart (g : Multigraph) (weights : List ℤ) (place : ℕ) : Type 0 where
-  pub few : place ≤ length weights
+  pub size_limit : place ≤ length weights
   pub vertex : ℕ
   pub low : 1 ≤ vertex
   pub high : vertex ≤ g.vertices
@@ -95,8 +95,8 @@ abbrev pub narrowed : ℕ → Found → Range → Range
 narrowed middle (Matching edges) r = record r { high = middle; matching = edges }
 narrowed middle (Barrier set) r = record r { low = middle + 1; barrier = set }
 
--- such a range after a search among the edges up to a place of another one: it is at most as wide as
--- the parts before that place and after it
+-- such a range after a search among the edges up to a place of another one: it is at most as wide
+-- as the parts before that place and after it
 pub record IsNarrowed (g : Multigraph) (weights : List ℤ) (place : ℕ) (old new : Range)
     : Type 0 where
   pub range : IsRange g weights new

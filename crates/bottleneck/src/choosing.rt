@@ -13,7 +13,7 @@ fn push_light(
     most: i64,
     place: u32,
 ) -> Result<(), OutOfMemory>
-    requires good { IsGraph graph.now }
+    requires is_graph { IsGraph graph.now }
     requires edge { IsEdgeNumber graph.now (place + 1) }
     requires before { AreLight graph.now most place numbers.old.items }
     ensures { OnOk result (AreLight graph.now most (place + 1) numbers.new.items) }
@@ -40,11 +40,11 @@ pub fn light_edges(alloc: Global, graph: &Graph, most: i64) -> Result<Vec<EdgeId
 
 /// The graph of these edges, with all weights 0.
 pub fn chosen_graph(alloc: Global, graph: &Graph, numbers: &[EdgeId]) -> Result<Graph, OutOfMemory>
-    requires plain { HasNoLoop graph.now }
+    requires loopless { HasNoLoop graph.now }
     requires numbers { All (IsEdgeNumber graph.now) numbers.now }
-    requires few { length numbers.now ≤ length graph.now.edges }
+    requires size_limit { length numbers.now ≤ length graph.now.edges }
     ensures graph { IfOk result (λ h. h ≡ chosen graph.now numbers.now) }
-    ensures plain { IfOk result HasNoLoop }
+    ensures loopless { IfOk result HasNoLoop }
 {
     let mut part = Graph::new(alloc, graph.vertices());
     for number in numbers {

@@ -23,7 +23,7 @@ fn narrow_at<L: Ledger>(
     steps: &mut Steps<L>,
 ) -> Result<(), OutOfMemory>
     requires limits { IsWithinLimits (size_of_graph graph.now) }
-    requires plain { HasNoLoop graph.now }
+    requires loopless { HasNoLoop graph.now }
     requires weights { AreWeights graph.now weights.now }
     requires range { IsRange graph.now weights.now range.old }
     requires low { range.old.low ≤ place }
@@ -47,12 +47,12 @@ fn narrow_at_start<L: Ledger>(
     steps: &mut Steps<L>,
 ) -> Result<(), OutOfMemory>
     requires limits { IsWithinLimits (size_of_graph graph.now) }
-    requires plain { HasNoLoop graph.now }
+    requires loopless { HasNoLoop graph.now }
     requires weights { AreWeights graph.now weights.now }
     requires range { IsRange graph.now weights.now range.old }
-    requires few { range.old.high ≤ EDGE_LIMIT }
+    requires size_limit { range.old.high ≤ EDGE_LIMIT }
     ensures range { OnOk result (IsRange graph.now weights.now range.new) }
-    ensures small { OnOk result (range.new.high - range.new.low < 2 ^ 16) }
+    ensures value_limit { OnOk result (range.new.high - range.new.low < 2 ^ 16) }
     ensures steps { steps.new ≤ steps.old + most_steps (size_of_graph graph.now) }
 {
     let first = range.low;
@@ -71,10 +71,10 @@ fn halve_all<L: Ledger>(
     steps: &mut Steps<L>,
 ) -> Result<(), OutOfMemory>
     requires limits { IsWithinLimits (size_of_graph graph.now) }
-    requires plain { HasNoLoop graph.now }
+    requires loopless { HasNoLoop graph.now }
     requires weights { AreWeights graph.now weights.now }
     requires range { IsRange graph.now weights.now range.old }
-    requires small { range.old.high - range.old.low < 2 ^ 16 }
+    requires value_limit { range.old.high - range.old.low < 2 ^ 16 }
     ensures range { OnOk result (IsRange graph.now weights.now range.new) }
     ensures one { OnOk result (range.new.low ≡ range.new.high) }
     ensures steps { steps.new ≤ steps.old + 16 * most_steps (size_of_graph graph.now) }
@@ -96,10 +96,10 @@ pub fn halve<L: Ledger>(
     steps: &mut Steps<L>,
 ) -> Result<(), OutOfMemory>
     requires limits { IsWithinLimits (size_of_graph graph.now) }
-    requires plain { HasNoLoop graph.now }
+    requires loopless { HasNoLoop graph.now }
     requires weights { AreWeights graph.now weights.now }
     requires range { IsRange graph.now weights.now range.old }
-    requires few { range.old.high ≤ EDGE_LIMIT }
+    requires size_limit { range.old.high ≤ EDGE_LIMIT }
     ensures range { OnOk result (IsRange graph.now weights.now range.new) }
     ensures one { OnOk result (range.new.low ≡ range.new.high) }
     ensures steps { steps.new ≤ steps.old + 17 * most_steps (size_of_graph graph.now) }

@@ -1,5 +1,5 @@
 //! Perfect matchings that minimise the largest edge weight. It depends on `mb_base`,
-//! `graph_theory`, `outer_sets`, `weighted_graph`, `mb_problem`, `gadget_base`, `dual_change`,
+//! `graph_theory`, `gallai_theory`, `weighted_graph`, `mb_problem`, `gadget_base`, `dual_change`,
 //! `mwpm_engine` and `least_joins`. It promises that `threshold` finds one, with a barrier of the
 //! graph of all lighter edges, or a barrier of the graph if there is no perfect matching.
 #![tactic(auto)]

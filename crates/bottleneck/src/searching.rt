@@ -21,9 +21,9 @@ fn matched(
     engine: &Engine,
     part: &Graph,
 ) -> Result<Found, OutOfMemory>
-    requires plain { HasNoLoop part.now }
+    requires loopless { HasNoLoop part.now }
     requires numbers { length numbers.now ≡ length part.now.edges }
-    requires same { engine.now.graph ≡ part.now }
+    requires same_graph { engine.now.graph ≡ part.now }
     requires matched { engine.now.outcome ≡ Some Matched }
     requires ends { Ends engine.now Matched }
     ensures { IfOk result (IsFound part.now numbers.now) }
@@ -41,10 +41,10 @@ fn searched<L: Ledger>(
     part: &Graph,
     steps: &mut Steps<L>,
 ) -> Result<Found, OutOfMemory>
-    requires plain { HasNoLoop part.now }
+    requires loopless { HasNoLoop part.now }
     requires numbers { length numbers.now ≡ length part.now.edges }
-    requires same { engine.old.graph ≡ part.now }
-    requires fresh { engine.old.outcome ≡ None }
+    requires same_graph { engine.old.graph ≡ part.now }
+    requires not_run { engine.old.outcome ≡ None }
     ensures found { IfOk result (IsFound part.now numbers.now) }
     ensures steps { steps.new ≤ steps.old + most_steps (size_of_graph part.now) }
 {
@@ -66,9 +66,9 @@ pub fn search<L: Ledger>(
     steps: &mut Steps<L>,
 ) -> Result<Found, OutOfMemory>
     requires limits { IsWithinLimits (size_of_graph graph.now) }
-    requires plain { HasNoLoop graph.now }
+    requires loopless { HasNoLoop graph.now }
     requires numbers { All (IsEdgeNumber graph.now) numbers.now }
-    requires few { length numbers.now ≤ length graph.now.edges }
+    requires size_limit { length numbers.now ≤ length graph.now.edges }
     ensures found { IfOk result (IsFound (chosen graph.now numbers.now) numbers.now) }
     ensures steps { steps.new ≤ steps.old + most_steps (size_of_graph graph.now) }
 {

@@ -23,7 +23,7 @@ fn lower(least: &mut [i64], vertex: VertexId, weight: i64)
 /// Lowers the least weights that are known at the ends of an edge.
 fn lower_ends(least: &mut [i64], graph: &Graph, number: EdgeId)
     requires size { length least.old ≡ graph.now.vertices + 1 }
-    requires good { IsGraph graph.now }
+    requires is_graph { IsGraph graph.now }
     requires edge { IsEdgeNumber graph.now number }
     ensures size { length least.new ≡ length least.old }
     ensures from { weight_at least.new (edge_of graph.now number).u
@@ -41,7 +41,7 @@ fn lower_ends(least: &mut [i64], graph: &Graph, number: EdgeId)
 fn least_weights(alloc: Global, graph: &Graph) -> Result<Vec<i64>, OutOfMemory>
     ensures size { IfOk result (λ v. length v.items ≡ graph.now.vertices + 1) }
     ensures each { IfOk result (λ v. AreLeast graph.now (length graph.now.edges) v.items) }
-    ensures good { IsGraph graph.now }
+    ensures is_graph { IsGraph graph.now }
 {
     let mut least = vec![in alloc; i64::MAX; graph.vertices() as usize + 1]?;
     for place in 0..graph.edges() {
@@ -77,7 +77,7 @@ fn greatest_least(alloc: Global, graph: &Graph) -> Result<i64, OutOfMemory>
 
 /// How many of the weights, which ascend, are below a bound.
 fn count_below(weights: &[i64], bound: i64) -> usize
-    ensures few { result ≤ length weights.now }
+    ensures size_limit { result ≤ length weights.now }
     ensures below { (p : ℕ) → p < result → int_lt (weight_at weights.now p) bound ≡ true }
 {
     for place in 0..weights.len() {

@@ -3,16 +3,16 @@ use Rattle.mb_problem.proofs.Common.{◌≡◌, ℕ, ℤ, ◌+◌, ◌<◌, ◌�
 use Rattle.mb_problem.proofs.Common.{IsAsGood, weight_of}
 use Rattle.std.specs.Option.{IfSome}
 use Rattle.mb_problem.specs.declared.kind.Kind.{Kind}
-use Rattle.mb_problem.specs.declared.kind.Sense.{Sense}
-use Rattle.mb_problem.specs.declared.kind.Sense.TheVariants.{Least, Greatest}
+use Rattle.mb_problem.specs.declared.kind.Objective.{Objective}
+use Rattle.mb_problem.specs.declared.kind.Objective.TheVariants.{Least, Greatest}
 use Rattle.mb_problem.specs.declared.answer.Answer.{Answer}
 use Rattle.brute_force.specs.Tried.{answer_of, IsBestBelow}
 
-refl_by : (sense : Sense) (a : ℤ) → IsAsGoodBy sense a a
+refl_by : (sense : Objective) (a : ℤ) → IsAsGoodBy sense a a
 refl_by Least a = omega (arith, ints)
 refl_by Greatest a = omega (arith, ints)
 
-trans_by : (sense : Sense) (a b c : ℤ) → IsAsGoodBy sense a b → IsAsGoodBy sense b c → IsAsGoodBy sense a c
+trans_by : (sense : Objective) (a b c : ℤ) → IsAsGoodBy sense a b → IsAsGoodBy sense b c → IsAsGoodBy sense a c
 trans_by Least a b c h g = omega (arith, ints)
 trans_by Greatest a b c h g = omega (arith, ints)
 

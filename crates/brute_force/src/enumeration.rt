@@ -11,7 +11,7 @@ ghost use Rattle.brute_force.specs.declared.limits.TheConstants.{TRIAL_LIMIT};
 use crate::digits::{digits_of, lists};
 use crate::mosts::mosts;
 use mb_base::OutOfMemory;
-use mb_problem::{Answer, Instance, Kind, Sense, feasible, weight};
+use mb_problem::{Answer, Instance, Kind, Objective, feasible, weight};
 use std::alloc::Global;
 
 /// Whether an answer of one weight is better than an answer of the other.
@@ -19,8 +19,8 @@ fn is_better(kind: Kind, one: i128, other: i128) -> bool
     ensures { MatchBool result (IsAsGood kind one other) (IsAsGood kind other one) }
 {
     match kind.sense() {
-        Sense::Greatest => one > other,
-        Sense::Least => one < other,
+        Objective::Greatest => one > other,
+        Objective::Least => one < other,
     }
 }
 
@@ -54,7 +54,7 @@ fn try_code(
     found: Option<Answer>,
 ) -> Result<Option<Answer>, OutOfMemory>
     requires kind { is_counted kind ≡ true }
-    requires small { All (λ most. most ≤ VALUE_LIMIT) mosts.now }
+    requires value_limit { All (λ most. most ≤ VALUE_LIMIT) mosts.now }
     requires best { IsBestBelow kind instance.now mosts.now code found }
     ensures best { IfOk result (λ kept. IsBestBelow kind instance.now mosts.now (code + 1) kept) }
 {
@@ -70,8 +70,8 @@ fn try_code(
 
 /// How many lists of counts up to these there are, if they are few.
 fn list_count(mosts: &[u32]) -> u64
-    requires small { All (λ most. most ≤ VALUE_LIMIT) mosts.now }
-    requires few { digit_lists mosts.now ≤ TRIAL_LIMIT }
+    requires value_limit { All (λ most. most ≤ VALUE_LIMIT) mosts.now }
+    requires size_limit { digit_lists mosts.now ≤ TRIAL_LIMIT }
     ensures { result ≡ digit_lists mosts.now }
 {
     lists(mosts).unwrap_or(0)
@@ -103,7 +103,7 @@ pub fn is_small(alloc: Global, instance: &Instance, kind: Kind) -> Result<bool, 
 /// `OutOfMemory` if an allocation fails.
 pub fn best(alloc: Global, instance: &Instance, kind: Kind) -> Result<Option<Answer>, OutOfMemory>
     requires kind { is_counted kind ≡ true }
-    requires few { digit_lists (mosts kind instance.now) ≤ TRIAL_LIMIT }
+    requires size_limit { digit_lists (mosts kind instance.now) ≤ TRIAL_LIMIT }
 
     // An optimal answer to a small instance by trying all, for tests.
     ensures { IfOk result (IsBestOrNone kind instance.now) }

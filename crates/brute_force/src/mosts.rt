@@ -14,7 +14,7 @@ fn valued(instance: &Instance, edge: &InstanceEdge) -> u32
     requires { IsEdgeWithin (vertices instance.now) (plain edge.now) }
     ensures value { result ≡ min (value_of instance.now edge.now.u)
         (value_of instance.now edge.now.v) }
-    ensures small { result ≤ VALUE_LIMIT }
+    ensures value_limit { result ≤ VALUE_LIMIT }
 {
     instance.value(edge.u).min(instance.value(edge.v))
 }
@@ -24,7 +24,7 @@ fn highest(instance: &Instance, edge: &InstanceEdge) -> u32
     requires { IsEdgeWithin (vertices instance.now) (plain edge.now) }
     ensures degree { result ≡ min (high_of instance.now edge.now.u)
         (high_of instance.now edge.now.v) }
-    ensures small { result ≤ VALUE_LIMIT }
+    ensures value_limit { result ≤ VALUE_LIMIT }
 {
     instance.range(edge.u).1.min(instance.range(edge.v).1)
 }
@@ -32,7 +32,7 @@ fn highest(instance: &Instance, edge: &InstanceEdge) -> u32
 /// The lesser of a capacity, if there is one, and `most`.
 fn capped(capacity: Option<u32>, most: u32) -> u32
     ensures bounded { result ≡ bounded capacity most }
-    ensures small { result ≤ most }
+    ensures value_limit { result ≤ most }
 {
     match capacity {
         Some(capacity) => capacity.min(most),
@@ -44,7 +44,7 @@ fn capped(capacity: Option<u32>, most: u32) -> u32
 fn most_by(instance: &Instance, edge_use: EdgeUse, edge: &InstanceEdge) -> u32
     requires { IsEdgeWithin (vertices instance.now) (plain edge.now) }
     ensures most { result ≡ most_by edge_use instance.now edge.now }
-    ensures small { result ≤ VALUE_LIMIT }
+    ensures value_limit { result ≤ VALUE_LIMIT }
 {
     match edge_use {
         EdgeUse::Once => 1,
@@ -58,7 +58,7 @@ fn most_by(instance: &Instance, edge_use: EdgeUse, edge: &InstanceEdge) -> u32
 fn most_of(instance: &Instance, kind: Kind, edge: &InstanceEdge) -> u32
     requires { IsEdgeWithin (vertices instance.now) (plain edge.now) }
     ensures most { result ≡ most_of kind instance.now edge.now }
-    ensures small { result ≤ VALUE_LIMIT }
+    ensures value_limit { result ≤ VALUE_LIMIT }
 {
     match kind.form() {
         AnswerForm::Counts => most_by(instance, kind.edge_use(), edge),
@@ -69,7 +69,7 @@ fn most_of(instance: &Instance, kind: Kind, edge: &InstanceEdge) -> u32
 /// How often each edge can be used at most.
 pub fn mosts(alloc: Global, instance: &Instance, kind: Kind) -> Result<Vec<u32>, OutOfMemory>
     ensures mosts { IfOk result (λ v. v.items ≡ mosts kind instance.now) }
-    ensures small { IfOk result (λ v. All (λ most. most ≤ VALUE_LIMIT) v.items) }
+    ensures value_limit { IfOk result (λ v. All (λ most. most ≤ VALUE_LIMIT) v.items) }
     ensures network { IsNetwork instance.now }
 {
     let mut list = Vec::new(alloc);

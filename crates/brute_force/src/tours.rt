@@ -18,7 +18,7 @@ use std::alloc::Global;
 /// For each vertex 1 where its degree is odd, and 0 elsewhere.
 fn odd_degrees(alloc: Global, instance: &Instance) -> Result<Vec<u32>, OutOfMemory>
     ensures size { IfOk result (λ values. length values.items ≡ vertices instance.now) }
-    ensures small { IfOk result (λ values. All (λ b. b ≤ 1) values.items) }
+    ensures value_limit { IfOk result (λ values. All (λ b. b ≤ 1) values.items) }
     ensures each { IfOk result (λ values. (k : ℕ) → k < vertices instance.now
         → slice_index values.items k ≡ odd_at OddDegrees instance.now (k + 1)) }
 {
@@ -100,7 +100,7 @@ fn once_more(alloc: Global, counts: &[u32]) -> Result<Sequence<u32>, OutOfMemory
 ///
 /// `OutOfMemory` if an allocation fails.
 pub fn least_tour_weight(alloc: Global, instance: &Instance) -> Result<i128, OutOfMemory>
-    requires few { digit_lists (mosts Postman instance.now) ≤ TRIAL_LIMIT }
+    requires size_limit { digit_lists (mosts Postman instance.now) ≤ TRIAL_LIMIT }
 
     // The weight of an optimal tour by its theorem, for tests.
     ensures { IfOk result (IsLeastTourWeight instance.now) }

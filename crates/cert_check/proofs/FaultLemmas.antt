@@ -14,7 +14,7 @@ first_line d number z fault is =
     let here : number - 1 < length d.sets = omega arith in
     let line : get_or (map (λ (z : SetLine). z.line) d.sets) (number - 1) 0 ≡ z.line =
     get_or-map (λ (z : SetLine). z.line) d.sets (number - 1) z 0 here ∙ ap (λ (z : SetLine). z.line) (sym is) in
-    record { at = number - 1; there = here; lacks = fault.lacks; line_is = sym line; before = λ j earlier. fault.before j (omega arith) }
+    record { at = number - 1; in_range = here; lacks = fault.lacks; line_is = sym line; before = λ j earlier. fault.before j (omega arith) }
 
 -- the sets before the fault of one
 item_form-before : (sets : List OddSet) (number : ℕ) → IsFirstSetFault sets number → (j : ℕ) → j + 1 < number → HasItemForm sets j

@@ -8,12 +8,12 @@ use Rattle.cert_check.specs.declared.rule.DocRule.TheVariants.{DocForm, KindDiff
 use Rattle.cert_check.specs.declared.rule.DocRule.TheVariants.{NotCircuit, PathForm, PathMissing}
 use Rattle.cert_check.specs.declared.rule.Verdict.{Verdict}
 use Rattle.cert_check.specs.declared.rule.Verdict.TheVariants.{Accepted, Rejected}
-use Rattle.cert_check.specs.declared.extent.Extent.{Extent}
+use Rattle.cert_check.specs.declared.extent.Sizes.{Sizes}
 use Rattle.cert_check.specs.Extents.{IsExtent}
 use Rattle.cert_check.specs.Verdicts.{Keeps, Breaks, IsVerdict, AreDualsBy, HasFeasibleDuals}
 
 -- the first line out of range, by the extent of the instance
-pub outside_is : (kind : Kind) (i : Network) (d : Document) (extent : Extent) → IsExtent kind i extent →
+pub outside_is : (kind : Kind) (i : Network) (d : Document) (extent : Sizes) → IsExtent kind i extent →
     first_outside extent.vertices extent.edges extent.certified d ≡ first_out_of_range kind i d
 outside_is kind i d extent is =
     ap (λ (n : ℕ). first_outside n extent.edges extent.certified d) is.vertices
@@ -118,7 +118,7 @@ not_both kind i d DocRange line breaks keeps = (let here : first_out_of_range ki
 not_both kind i d NotFeasible line breaks keeps = breaks.1 (keeps breaks.0)
 not_both kind i d WeightDiffers line breaks keeps = breaks.1 (keeps breaks.0)
 not_both kind i d DualMissing line breaks keeps = breaks.1 (keeps breaks.0)
-not_both kind i d SetForm line breaks keeps = breaks.lacks (keeps breaks.at breaks.there)
+not_both kind i d SetForm line breaks keeps = breaks.lacks (keeps breaks.at breaks.in_range)
 not_both kind i d Slack line breaks keeps = breaks.1 (keeps breaks.0)
 not_both kind i d ValueDiffers line breaks keeps = breaks.1 (keeps breaks.0)
 not_both kind i d PathForm line breaks keeps = breaks.1 (keeps breaks.0)

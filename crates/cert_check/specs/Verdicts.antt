@@ -49,7 +49,7 @@ Keeps kind i d NotCircuit = d.status ≡ NonConservative → HasNegativeCircuit 
 -- the z line at a place lacks form, and none before it does
 pub record IsFirstFormless (d : Document) (line : ℕ) : Type 0 where
   pub at : ℕ
-  pub there : at < length d.sets
+  pub in_range : at < length d.sets
   pub lacks : ¬ HasLineForm d at
   pub line_is : line ≡ slice_index_or (map (λ z. z.line) d.sets) at 0
   pub before : (j : ℕ) → j < at → HasLineForm d j
@@ -57,7 +57,7 @@ pub record IsFirstFormless (d : Document) (line : ℕ) : Type 0 where
 -- the r line at a place isn't as it has to be, and each before it is
 pub record IsFirstPathless (i : Network) (d : Document) (line : ℕ) : Type 0 where
   pub at : ℕ
-  pub there : at < length d.paths
+  pub in_range : at < length d.paths
   pub lacks : (r : PathLine) → r ≡ slice_index_or d.paths at r → ¬ IsStatedPath i d r
   pub line_is : line ≡ slice_index_or (map (λ r. r.line) d.paths) at 0
   pub before : (j : ℕ) (r : PathLine) → j < at → r ≡ slice_index_or d.paths j r

@@ -2,8 +2,8 @@
 ghost use Rattle.std.specs.Prelude.{◌≡◌, ℕ, ◌+◌, ◌<◌, ◌≤◌, ◌^◌, ◌==◌, ◌↔◌, List, length};
 ghost use Rattle.std.specs.Prelude.{false, not, ◌&&◌, ◌||◌, slice_index_or, IsTrue, IfOk};
 ghost use Rattle.graph_theory.specs.Parts.{IsVertexSet};
-ghost use Rattle.outer_sets.specs.Matchings.{IsBorder};
-ghost use Rattle.outer_sets.specs.Decomposition.{IsDecomposed};
+ghost use Rattle.gallai_theory.specs.Matchings.{IsBorder};
+ghost use Rattle.gallai_theory.specs.Decomposition.{IsDecomposed};
 ghost use Rattle.mb_problem.specs.Marks.{AreMarks};
 ghost use Rattle.cert_check.specs.Marked.{mark_of};
 
@@ -67,7 +67,7 @@ pub fn is_decomposed(
 ) -> Result<bool, OutOfMemory>
     requires outer { length outer.now ≡ graph.now.vertices }
     requires border { IsVertexSet graph.now.vertices border.now }
-    requires small { size ≤ 2 ^ 62 }
+    requires size_limit { size ≤ 2 ^ 62 }
     ensures { (set : List ℕ) → AreMarks graph.now.vertices outer.now set
         → IfOk result (λ b. IsTrue b ↔ IsDecomposed graph.now size set border.now) }
 {

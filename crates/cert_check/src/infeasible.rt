@@ -1,6 +1,6 @@
 ghost use Rattle.std.specs.Prelude.{◌≡◌, ◌↔◌, IsTrue, IfOk};
-ghost use Rattle.mb_problem.specs.declared.kind.Exclusion.TheVariants.{Barrier};
-ghost use Rattle.mb_problem.specs.Kinds.{exclusion_of};
+ghost use Rattle.mb_problem.specs.declared.kind.Obstruction.TheVariants.{Barrier};
+ghost use Rattle.mb_problem.specs.Kinds.{obstruction_of};
 ghost use Rattle.certificates.specs.Within.{AreWithin};
 ghost use Rattle.cert_check.specs.Extents.{MayBeJudged};
 ghost use Rattle.cert_check.specs.Verdicts.{IsVerdict, KeepsBefore};
@@ -15,7 +15,7 @@ use certificates::certified;
 use doc_format::{DocStatus, Document};
 use dual_check::is_barrier;
 use mb_base::OutOfMemory;
-use mb_problem::{Exclusion, Instance, Kind};
+use mb_problem::{Instance, Kind, Obstruction};
 use std::alloc::Global;
 
 /// Whether a document names a barrier.
@@ -27,7 +27,7 @@ fn has_barrier(
 ) -> Result<bool, OutOfMemory>
     requires judged { MayBeJudged kind instance.now }
     requires within { AreWithin kind instance.now document.now }
-    requires excluded { exclusion_of kind ≡ Barrier }
+    requires excluded { obstruction_of kind ≡ Barrier }
     ensures exact { IfOk result (λ b. IsTrue b ↔ HasBarrier kind instance.now document.now) }
     ensures none { IfOk result (λ b. IsTrue b → HasNoAnswer kind instance.now) }
 {
@@ -51,10 +51,10 @@ fn has_wanted_barrier(
     ensures exact { IfOk result (λ b. IsTrue b ↔ HasWantedBarrier kind instance.now document.now) }
     ensures none { IfOk result (λ b. IsTrue b → IsExcludedByBarrier kind instance.now) }
 {
-    match kind.exclusion() {
-        Exclusion::Barrier => has_barrier(alloc, instance, kind, document),
-        Exclusion::OddPart | Exclusion::SplitPart => Ok(true),
-        Exclusion::Never => Ok(false),
+    match kind.obstruction() {
+        Obstruction::Barrier => has_barrier(alloc, instance, kind, document),
+        Obstruction::OddPart | Obstruction::SplitPart => Ok(true),
+        Obstruction::Never => Ok(false),
     }
 }
 

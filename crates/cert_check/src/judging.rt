@@ -9,7 +9,7 @@ ghost use Rattle.cert_check.specs.Verdicts.{IsVerdict, HasFeasibleDuals};
 ghost use Rattle.certificates.specs.Proved.{IsProved, StatesTruth};
 
 use crate::circuit::judge_conservative;
-use crate::extent::{Extent, extent_of};
+use crate::extent::{Sizes, extent_of};
 use crate::infeasible::judge_infeasible;
 use crate::optimal::judge_optimal;
 use crate::ranges::first_outside;
@@ -25,7 +25,7 @@ fn judge_claims(
     instance: &Instance,
     kind: Kind,
     document: &Document,
-    extent: Extent,
+    extent: Sizes,
 ) -> Result<Verdict, OutOfMemory>
     requires judged { MayBeJudged kind instance.now }
     requires extent { IsExtent kind instance.now extent }

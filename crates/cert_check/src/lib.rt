@@ -11,13 +11,13 @@ mod extent;
 mod infeasible;
 mod judging;
 mod lighter;
-mod numbers;
 mod optimal;
 mod parts;
 mod paths;
 mod ranges;
 mod rule;
 mod set_form;
+mod value_ranges;
 
 pub use judging::judge;
 pub use rule::{DocRule, Verdict};

@@ -12,7 +12,7 @@ ghost use Rattle.cert_check.specs.Verdicts.{IsVerdict, KeepsBefore, HasFeasibleD
 ghost use Rattle.certificates.specs.Proved.{StatesTruth};
 
 use crate::claims::{answer_of, duals_of, sets_of};
-use crate::extent::Extent;
+use crate::extent::Sizes;
 use crate::lighter::judge_below;
 use crate::paths::judge_paths;
 use crate::rule::{DocRule, Verdict};
@@ -107,7 +107,7 @@ fn judge_sets(
     instance: &Instance,
     kind: Kind,
     document: &Document,
-    extent: Extent,
+    extent: Sizes,
 ) -> Result<Verdict, OutOfMemory>
     requires judged { MayBeJudged kind instance.now }
     requires extent { IsExtent kind instance.now extent }
@@ -138,7 +138,7 @@ fn judge_duals(
     instance: &Instance,
     kind: Kind,
     document: &Document,
-    extent: Extent,
+    extent: Sizes,
 ) -> Result<Verdict, OutOfMemory>
     requires judged { MayBeJudged kind instance.now }
     requires extent { IsExtent kind instance.now extent }
@@ -166,7 +166,7 @@ fn judge_answer(
     instance: &Instance,
     kind: Kind,
     document: &Document,
-    extent: Extent,
+    extent: Sizes,
     answer: &Answer,
 ) -> Result<Verdict, OutOfMemory>
     requires judged { MayBeJudged kind instance.now }
@@ -203,7 +203,7 @@ pub fn judge_optimal(
     instance: &Instance,
     kind: Kind,
     document: &Document,
-    extent: Extent,
+    extent: Sizes,
 ) -> Result<Verdict, OutOfMemory>
     requires judged { MayBeJudged kind instance.now }
     requires extent { IsExtent kind instance.now extent }

@@ -10,7 +10,7 @@ ghost use Rattle.certificates.specs.Certificates.{HasOddPart, HasSplitPart, HasW
 use crate::claims::members_of;
 use doc_format::Document;
 use mb_base::{OutOfMemory, VertexId};
-use mb_problem::{Exclusion, Instance, Kind, VERTEX_LIMIT, mark};
+use mb_problem::{Instance, Kind, Obstruction, VERTEX_LIMIT, mark};
 use std::alloc::Global;
 
 /// Marks for the vertices from 1 to `n`: those that are listed.
@@ -172,9 +172,9 @@ pub fn has_wanted_part(
     ensures network { IsNetwork instance.now }
 {
     prove!(instance.vertices() <= VERTEX_LIMIT);
-    match kind.exclusion() {
-        Exclusion::OddPart => has_odd_part(alloc, instance, document),
-        Exclusion::SplitPart => has_split_part(alloc, instance, document),
-        Exclusion::Barrier | Exclusion::Never => Ok(true),
+    match kind.obstruction() {
+        Obstruction::OddPart => has_odd_part(alloc, instance, document),
+        Obstruction::SplitPart => has_split_part(alloc, instance, document),
+        Obstruction::Barrier | Obstruction::Never => Ok(true),
     }
 }

@@ -78,7 +78,7 @@ fn is_stated_path(
     stated: &Stated,
     place: usize,
 ) -> Result<bool, OutOfMemory>
-    requires there { place < length document.now.paths }
+    requires in_range { place < length document.now.paths }
     requires network { IsNetwork instance.now }
     requires stated { IsStated instance.now document.now stated.now }
     requires within { All (IsPathWithin (vertices instance.now) (length instance.now.edges))
@@ -192,7 +192,7 @@ pub fn judge_paths(
     ensures duals { IfOk result
         (λ v. v ≡ Verdict.Accepted → HasFeasibleDuals kind instance.now document.now) }
 {
-    outer_sets::laws();
+    gallai_theory::laws();
     let stated = stated_of(alloc, instance, document)?;
     if let Some(line) = first_pathless(alloc, instance, document, &stated)? {
         let rule = DocRule::PathForm;

@@ -3,13 +3,13 @@ ghost use Rattle.doc_format.specs.Parts.{at_most_one, parts_of};
 ghost use Rattle.doc_format.specs.Reading.{body_of};
 ghost use Rattle.certificates.specs.Ranges.{first_fault, first_outside, checked};
 
-use crate::extent::Extent;
-use crate::numbers::{are_items_within, are_up_to, is_dual, is_set_dual, is_up_to};
+use crate::extent::Sizes;
+use crate::value_ranges::{are_items_within, are_up_to, is_dual, is_set_dual, is_up_to};
 use doc_format::{CountLine, Document, DualLine, MemberLine, Part, PathLine, SetLine, WalkLine};
 use mb_problem::VALUE_LIMIT;
 
 /// The first line of a count that isn't in range.
-fn first_count(counts: &[CountLine], extent: Extent) -> Option<u64>
+fn first_count(counts: &[CountLine], extent: Sizes) -> Option<u64>
     ensures { result ≡ first_fault (checked extent.vertices extent.edges extent.certified 0
         (map Part.Count counts.now)) }
 {
@@ -22,7 +22,7 @@ fn first_count(counts: &[CountLine], extent: Extent) -> Option<u64>
 }
 
 /// The line of a walk that isn't in range.
-fn first_walk(walk: &Option<WalkLine>, extent: Extent) -> Option<u64>
+fn first_walk(walk: &Option<WalkLine>, extent: Sizes) -> Option<u64>
     ensures { result ≡ first_fault (checked extent.vertices extent.edges extent.certified 0
         (at_most_one Part.Walk walk.now)) }
 {
@@ -35,7 +35,7 @@ fn first_walk(walk: &Option<WalkLine>, extent: Extent) -> Option<u64>
 }
 
 /// The first line of a dual that isn't in range.
-fn first_dual(duals: &[DualLine], extent: Extent) -> Option<u64>
+fn first_dual(duals: &[DualLine], extent: Sizes) -> Option<u64>
     ensures { result ≡ first_fault (checked extent.vertices extent.edges extent.certified 0
         (map Part.Dual duals.now)) }
 {
@@ -48,7 +48,7 @@ fn first_dual(duals: &[DualLine], extent: Extent) -> Option<u64>
 }
 
 /// The first line of a set that isn't in range.
-fn first_set(sets: &[SetLine], extent: Extent) -> Option<u64>
+fn first_set(sets: &[SetLine], extent: Sizes) -> Option<u64>
     ensures { result ≡ first_fault (checked extent.vertices extent.edges extent.certified 0
         (map Part.Set sets.now)) }
 {
@@ -61,7 +61,7 @@ fn first_set(sets: &[SetLine], extent: Extent) -> Option<u64>
 }
 
 /// The line of outer vertices that isn't in range.
-fn first_outer(outer: &Option<MemberLine>, extent: Extent) -> Option<u64>
+fn first_outer(outer: &Option<MemberLine>, extent: Sizes) -> Option<u64>
     ensures { result ≡ first_fault (checked extent.vertices extent.edges extent.certified 0
         (at_most_one Part.Outer outer.now)) }
 {
@@ -72,7 +72,7 @@ fn first_outer(outer: &Option<MemberLine>, extent: Extent) -> Option<u64>
 }
 
 /// The first line of a path that isn't in range.
-fn first_path(paths: &[PathLine], extent: Extent) -> Option<u64>
+fn first_path(paths: &[PathLine], extent: Sizes) -> Option<u64>
     ensures { result ≡ first_fault (checked extent.vertices extent.edges extent.certified 0
         (map Part.Even paths.now)) }
 {
@@ -85,7 +85,7 @@ fn first_path(paths: &[PathLine], extent: Extent) -> Option<u64>
 }
 
 /// The line of a barrier that isn't in range.
-fn first_barrier(barrier: &Option<MemberLine>, extent: Extent) -> Option<u64>
+fn first_barrier(barrier: &Option<MemberLine>, extent: Sizes) -> Option<u64>
     ensures { result ≡ first_fault (checked extent.vertices extent.edges extent.certified 0
         (at_most_one Part.Barrier barrier.now)) }
 {
@@ -96,7 +96,7 @@ fn first_barrier(barrier: &Option<MemberLine>, extent: Extent) -> Option<u64>
 }
 
 /// The line of an odd part that isn't in range.
-fn first_odd(odd: &Option<MemberLine>, extent: Extent) -> Option<u64>
+fn first_odd(odd: &Option<MemberLine>, extent: Sizes) -> Option<u64>
     ensures { result ≡ first_fault (checked extent.vertices extent.edges extent.certified 0
         (at_most_one Part.Odd odd.now)) }
 {
@@ -107,7 +107,7 @@ fn first_odd(odd: &Option<MemberLine>, extent: Extent) -> Option<u64>
 }
 
 /// The line of a split part that isn't in range.
-fn first_split(split: &Option<MemberLine>, extent: Extent) -> Option<u64>
+fn first_split(split: &Option<MemberLine>, extent: Sizes) -> Option<u64>
     ensures { result ≡ first_fault (checked extent.vertices extent.edges extent.certified 0
         (at_most_one Part.Split split.now)) }
 {
@@ -119,7 +119,7 @@ fn first_split(split: &Option<MemberLine>, extent: Extent) -> Option<u64>
 
 /// The first line after a document's first with a number out of range, for an instance of this
 /// extent.
-fn first_part(document: &Document, extent: Extent) -> Option<u64>
+fn first_part(document: &Document, extent: Sizes) -> Option<u64>
     ensures { result ≡ first_fault (checked extent.vertices extent.edges extent.certified 0
         (parts_of (body_of document.now))) }
 {
@@ -135,7 +135,7 @@ fn first_part(document: &Document, extent: Extent) -> Option<u64>
 }
 
 /// The first line of a document with a number out of range, for an instance of this extent.
-pub fn first_outside(document: &Document, extent: Extent) -> Option<u64>
+pub fn first_outside(document: &Document, extent: Sizes) -> Option<u64>
     ensures { result ≡ first_outside extent.vertices extent.edges extent.certified document.now }
 {
     if !is_dual(document.weight) {

@@ -48,9 +48,9 @@ pub use Rattle.graph_theory.specs.Walk.{AllDiffer, IsCircuit, IsWalk, walk_end, 
 pub use Rattle.graph_theory.specs.declared.edge.Edge.{Edge}
 pub use Rattle.graph_theory.specs.declared.limits.TheConstants.{GRAPH_EDGE_LIMIT, GRAPH_VERTEX_LIMIT, NUMBER_LIMIT}
 pub use Rattle.graph_theory.specs.declared.odd_set.OddSet.{OddSet}
-pub use Rattle.outer_sets.specs.Decomposition.{Alternates, IsDecomposed, IsEvenPath}
-pub use Rattle.outer_sets.specs.Laws.{LoopsMatterNot, PathsDecompose}
-pub use Rattle.outer_sets.specs.Matchings.{edges_used}
+pub use Rattle.gallai_theory.specs.Decomposition.{Alternates, IsDecomposed, IsEvenPath}
+pub use Rattle.gallai_theory.specs.Laws.{LoopsMatterNot, PathsDecompose}
+pub use Rattle.gallai_theory.specs.Matchings.{edges_used}
 pub use Rattle.mb_problem.proofs.CountBounds.{nothing-used}
 pub use Rattle.mb_problem.proofs.EdgeLemmas.{edge-ends, edges-count, network-graph}
 pub use Rattle.mb_problem.proofs.KindLaws.{IsInForm, IsNoLarger, even-no-larger, feasible-counts, feasible-form, feasible-most, feasible-places, feasible-walk, kind-back, kind-short}
@@ -60,7 +60,7 @@ pub use Rattle.mb_problem.specs.Degrees.{AreDegrees}
 pub use Rattle.mb_problem.specs.Feasible.{AreEnds, IsFeasible, IsMatching, IsWalkWith, weight_by, weight_of}
 pub use Rattle.mb_problem.specs.Heaviest.{greater_of, greatest_to, heaviest, used_weight}
 pub use Rattle.mb_problem.specs.Joins.{HasNoNegativeEvenSet, ListsJoin, listed_counts, odd_between}
-pub use Rattle.mb_problem.specs.Kinds.{are_duals, asks_conservative, edge_use_of, exclusion_of, form_of, kind_text, need_of, proof_of, searches_of}
+pub use Rattle.mb_problem.specs.Kinds.{are_duals, asks_conservative, edge_use_of, obstruction_of, form_of, kind_text, need_of, proof_of, searches_of}
 pub use Rattle.mb_problem.specs.Marks.{AreMarks}
 pub use Rattle.mb_problem.specs.Measured.{HasPlaces}
 pub use Rattle.mb_problem.specs.Network.{IsInstanceEdge, IsNetwork, Network, graph_of, high_of, instance_edge_at, plain, plain_graph, value_of, vertices}
@@ -79,13 +79,13 @@ pub use Rattle.mb_problem.specs.declared.kind.BestProof.TheVariants.{Duals, Ligh
 pub use Rattle.mb_problem.specs.declared.kind.DualValue.{DualValue}
 pub use Rattle.mb_problem.specs.declared.kind.DualValue.TheVariants.{BesideAll, FourTimes, Opposite, Twice}
 pub use Rattle.mb_problem.specs.declared.kind.EdgeUse.{EdgeUse}
-pub use Rattle.mb_problem.specs.declared.kind.Exclusion.{Exclusion}
-pub use Rattle.mb_problem.specs.declared.kind.Exclusion.TheVariants.{Barrier, Never, OddPart, SplitPart}
+pub use Rattle.mb_problem.specs.declared.kind.Obstruction.{Obstruction}
+pub use Rattle.mb_problem.specs.declared.kind.Obstruction.TheVariants.{Barrier, Never, OddPart, SplitPart}
 pub use Rattle.mb_problem.specs.declared.kind.Kind.{Kind}
 pub use Rattle.mb_problem.specs.declared.kind.Kind.TheVariants.{Bottleneck, Gallai, Perfect, Postman}
-pub use Rattle.mb_problem.specs.declared.kind.Measure.TheVariants.{Total}
-pub use Rattle.mb_problem.specs.declared.kind.Need.{Need}
-pub use Rattle.mb_problem.specs.declared.kind.Need.TheVariants.{Ends, EndsAndWeightsFromZero, Unrestricted, WeightsFromZero}
+pub use Rattle.mb_problem.specs.declared.kind.Cost.TheVariants.{Total}
+pub use Rattle.mb_problem.specs.declared.kind.Precondition.{Precondition}
+pub use Rattle.mb_problem.specs.declared.kind.Precondition.TheVariants.{Ends, EndsAndWeightsFromZero, Unrestricted, WeightsFromZero}
 pub use Rattle.mb_problem.specs.declared.limits.TheConstants.{EDGE_LIMIT, VALUE_LIMIT, VERTEX_LIMIT}
 pub use Rattle.gadget_base.proofs.Blocks.{All-tabled, is-tabled, tabled-at, tabled-length, tabled-more, tabled-same}
 pub use Rattle.gadget_base.proofs.Links.{perfect-reached, plain-graph, plain-length, with_loops-at}

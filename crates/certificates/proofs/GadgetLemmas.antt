@@ -6,7 +6,7 @@ use Rattle.mb_problem.specs.Ready.{HasNeededWeights}
 use Rattle.mb_problem.specs.Size.{certified_by}
 use Rattle.mb_problem.specs.declared.kind.Kind.{Kind}
 use Rattle.mb_problem.specs.declared.kind.Kind.TheVariants.{TJoin, Postman}
-use Rattle.mb_problem.specs.declared.kind.Need.{Need}
+use Rattle.mb_problem.specs.declared.kind.Precondition.{Precondition}
 use Rattle.mb_problem.specs.declared.kind.BestProof.{BestProof}
 use Rattle.mb_problem.specs.declared.kind.BestProof.TheVariants.{Duals, LighterBarrier, OuterPaths}
 use Rattle.mb_problem.specs.declared.answer.Answer.{Answer}
@@ -38,7 +38,7 @@ few_vertices kind i limits = omega (arith, certified_vertices kind i, (certified
 module _ (kind first : Kind) (i : Network) (answer : Answer) (same : gadget_of first ≡ gadget_of kind) (weights : HasNeededWeights kind i) where
   reached_first : ReachesLike kind first → (HasNeededWeights first i → ReachesAll first i) → IsFeasible kind i answer → IsReached first i answer
   reached_first like reached feasible =
-      let needed = subst (λ (n : Need). HasWeightsBy n i) (sym like.need) weights in
+      let needed = subst (λ (n : Precondition). HasWeightsBy n i) (sym like.need) weights in
       reached-weighs (proof_of first) first i answer like.duals (reached needed answer (like.feasible i answer feasible))
 
   perfect_too : (counts : List ℕ) → IsPerfect (gadget_graph first i) counts → IsPerfect (gadget_graph kind i) counts

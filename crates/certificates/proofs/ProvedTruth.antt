@@ -1,9 +1,9 @@
 -- What a document proves is true.
 use Rattle.mb_problem.proofs.Common.{◌≡◌, ℕ, List, Option, None, Some, MatchOption, refl, ap, IsBarrier, dual_value, Multigraph, IsGraph, IsPerfect, barrier_excludes, weak_duality}
-use Rattle.mb_problem.proofs.Common.{PathsDecompose, LoopsMatterNot, exclusion_of, proof_of, are_duals, Network, IsNetwork}
+use Rattle.mb_problem.proofs.Common.{PathsDecompose, LoopsMatterNot, obstruction_of, proof_of, are_duals, Network, IsNetwork}
 use Rattle.mb_problem.specs.declared.kind.Kind.{Kind}
-use Rattle.mb_problem.specs.declared.kind.Exclusion.{Exclusion}
-use Rattle.mb_problem.specs.declared.kind.Exclusion.TheVariants.{Barrier, OddPart, SplitPart, Never}
+use Rattle.mb_problem.specs.declared.kind.Obstruction.{Obstruction}
+use Rattle.mb_problem.specs.declared.kind.Obstruction.TheVariants.{Barrier, OddPart, SplitPart, Never}
 use Rattle.mb_problem.specs.declared.kind.BestProof.{BestProof}
 use Rattle.mb_problem.specs.declared.kind.BestProof.TheVariants.{Duals, LighterBarrier, OuterPaths}
 use Rattle.gadget_base.specs.Certified.{gadget_graph, ReachesAll}
@@ -27,9 +27,9 @@ none_perfect : (g : Multigraph) (line : Option MemberLine) → IsGraph g → Mat
 none_perfect g None ok barrier counts perfect = barrier
 none_perfect g (Some u) ok barrier counts perfect = barrier_excludes g (numbers u.members) counts ok barrier perfect
 
-by_barrier : (exclusion : Exclusion) (kind : Kind) (i : Network) (d : Document) → exclusion_of kind ≡ exclusion → IsGraph (gadget_graph kind i) → ReachesAll kind i →
-    HasBarrierFor exclusion kind i d →
-    IsExcludedFor exclusion kind i
+by_barrier : (obstruction : Obstruction) (kind : Kind) (i : Network) (d : Document) → obstruction_of kind ≡ obstruction → IsGraph (gadget_graph kind i) → ReachesAll kind i →
+    HasBarrierFor obstruction kind i d →
+    IsExcludedFor obstruction kind i
 by_barrier Barrier kind i d is graph reached barrier = no_answer kind i is reached (none_perfect (gadget_graph kind i) d.barrier graph barrier)
 by_barrier OddPart kind i d is graph reached barrier = tt
 by_barrier SplitPart kind i d is graph reached barrier = tt
@@ -51,7 +51,7 @@ by_proof OuterPaths kind i d is theorems ok within graph reached feasible weighs
 truth_of : (status : DocStatus) (kind : Kind) (i : Network) (d : Document) → (proof_of kind ≡ OuterPaths → PathsDecompose × LoopsMatterNot) → IsNetwork i → AreWithin kind i d →
     IsGraph (gadget_graph kind i) → ReachesAll kind i → ProvesByStatus status kind i d → StatesTruthBy status kind i d
 truth_of Optimal kind i d theorems ok within graph reached p = by_proof (proof_of kind) kind i d refl theorems ok within graph reached p.feasible p.weighs p.best
-truth_of Infeasible kind i d theorems ok within graph reached p = excluded kind i d ok (by_barrier (exclusion_of kind) kind i d refl graph reached p.0) p.1
+truth_of Infeasible kind i d theorems ok within graph reached p = excluded kind i d ok (by_barrier (obstruction_of kind) kind i d refl graph reached p.0) p.1
 truth_of NonConservative kind i d theorems ok within graph reached p = not_conservative i d p
 
 pub proved_true : PathsDecompose → LoopsMatterNot → ProvedIsTrue

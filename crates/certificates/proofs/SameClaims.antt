@@ -2,15 +2,16 @@
 use Rattle.mb_problem.proofs.Common.{◌≡◌, ℕ, ℤ, ◌+◌, ◌<◌, ◌%◌, pos, ◌<ℤ◌, cond, eqb, List, [], ◌∷◌, length, get_or, map, All, true, Option, None, Some}
 use Rattle.mb_problem.proofs.Common.{nat_abs, refl, sym, ap, subst, ◌∙◌, MatchOption, arith, option_map, range_with_len, get_or-map, get_or_default, length-map, same_Some, All-nil}
 use Rattle.mb_problem.proofs.Common.{All-cons, All-head, All-tail, All-map, All-weaker, IsBarrier, holds, IsOddPart, IsSplitPart, IsEvenPath, IsDecomposed, OddSet, AreDuals, IsNumber}
-use Rattle.mb_problem.proofs.Common.{dual_value, HasItemForm, listed_sets, IsCircuit, walk_weight, form_of, exclusion_of, proof_of, Network, vertices, graph_of, value_of, IsFeasible, IsBest}
+use Rattle.mb_problem.proofs.Common.{dual_value, HasItemForm, listed_sets, IsCircuit, walk_weight, form_of, obstruction_of, proof_of, Network, vertices, graph_of, value_of, IsFeasible}
+use Rattle.mb_problem.proofs.Common.{IsBest}
 use Rattle.mb_problem.proofs.Common.{weight_of, AreMissed, BorderMissed, value_for}
 use Rattle.std.specs.Ordering.{int_eq}
 use Rattle.mb_problem.specs.declared.kind.Kind.{Kind}
 use Rattle.mb_problem.specs.declared.answer.Answer.TheVariants.{Counts}
 use Rattle.gadget_base.proofs.Common.{gadget_graph, lighter_than}
 use Rattle.mb_problem.specs.declared.kind.AnswerForm.{AnswerForm}
-use Rattle.mb_problem.specs.declared.kind.Exclusion.{Exclusion}
-use Rattle.mb_problem.specs.declared.kind.Exclusion.TheVariants.{Barrier, OddPart, SplitPart, Never}
+use Rattle.mb_problem.specs.declared.kind.Obstruction.{Obstruction}
+use Rattle.mb_problem.specs.declared.kind.Obstruction.TheVariants.{Barrier, OddPart, SplitPart, Never}
 use Rattle.mb_problem.specs.declared.kind.BestProof.{BestProof}
 use Rattle.mb_problem.specs.declared.kind.BestProof.TheVariants.{Duals, LighterBarrier, OuterPaths}
 use Rattle.doc_format.specs.declared.status.DocStatus.{DocStatus}
@@ -203,13 +204,13 @@ module _ (kind : Kind) (i : Network) (d e : Document) (same : SaysTheSame d e) w
       (subst (λ (w : ℤ). MatchOption d.barrier ⊥ (λ u. IsDecomposed (gadget_graph kind i) (nat_abs w) (members_of e.outer) (numbers u.members))) same.weight
       (subst (λ (set : List ℕ). MatchOption d.barrier ⊥ (λ u. IsDecomposed (gadget_graph kind i) (nat_abs d.weight) set (numbers u.members))) outer_same h))
 
-  barrier_same : (x : Exclusion) → HasBarrierFor x kind i d → HasBarrierFor x kind i e
+  barrier_same : (x : Obstruction) → HasBarrierFor x kind i d → HasBarrierFor x kind i e
   barrier_same Barrier h = member-fact (IsBarrier (gadget_graph kind i)) d.barrier e.barrier (ap (λ (b : Body). b.barrier) bodies) h
   barrier_same OddPart h = h
   barrier_same SplitPart h = h
   barrier_same Never h = h
 
-  part_same : (x : Exclusion) → HasPartFor x i d → HasPartFor x i e
+  part_same : (x : Obstruction) → HasPartFor x i d → HasPartFor x i e
   part_same Barrier h = h
   part_same OddPart h = member-fact (IsOddPart (graph_of i) (λ v. eqb (value_of i v % 2) 1)) d.odd e.odd (ap (λ (b : Body). b.odd) bodies) h
   part_same SplitPart h = member-fact (IsSplitPart (graph_of i)) d.split e.split (ap (λ (b : Body). b.split) bodies) h
@@ -245,7 +246,7 @@ module _ (kind : Kind) (i : Network) (d e : Document) (same : SaysTheSame d e) w
 
   proves_same : (s : DocStatus) → ProvesByStatus s kind i d → ProvesByStatus s kind i e
   proves_same Optimal p = optimal_same p
-  proves_same Infeasible p = (barrier_same (exclusion_of kind) p.0, part_same (exclusion_of kind) p.1)
+  proves_same Infeasible p = (barrier_same (obstruction_of kind) p.0, part_same (obstruction_of kind) p.1)
   proves_same NonConservative p = circuit_same p
 
   pub proved-same : IsProved kind i d → IsProved kind i e

@@ -1,12 +1,12 @@
 -- What accepted documents state is true.
 use Rattle.mb_problem.proofs.Common.{◌≡◌, ℕ, ℤ, pos, ◌*ℤ◌, ◌≤ℤ◌, ◌<ℤ◌, true, List, length, Option, None, Some, MatchOption, nat_abs, refl, sym, ap, subst}
-use Rattle.mb_problem.proofs.Common.{arith, dec_lt, ints, IsBarrier, IsPerfect, weight, IsCircuit, IsConservative, walk_weight, proof_of, exclusion_of, are_duals, Network, IsNetwork}
+use Rattle.mb_problem.proofs.Common.{arith, dec_lt, ints, IsBarrier, IsPerfect, weight, IsCircuit, IsConservative, walk_weight, proof_of, obstruction_of, are_duals, Network, IsNetwork}
 use Rattle.mb_problem.proofs.Common.{vertices, graph_of, plain_graph, IsFeasible, IsAsGood, weight_of, heaviest, value_for, value-order, only-bottleneck, only-gallai}
 use Rattle.mb_problem.specs.declared.kind.Kind.{Kind}
 use Rattle.mb_problem.specs.declared.answer.Answer.TheVariants.{Counts, Walk, Nothing}
 use Rattle.gadget_base.proofs.Common.{gadget_graph, ReachesAll, IsReached, IsReachedBy, IsMatchable, lighter_than}
 use Rattle.mb_problem.specs.declared.kind.Kind.TheVariants.{Bottleneck}
-use Rattle.mb_problem.specs.declared.kind.Exclusion.TheVariants.{Barrier}
+use Rattle.mb_problem.specs.declared.kind.Obstruction.TheVariants.{Barrier}
 use Rattle.mb_problem.specs.declared.kind.BestProof.{BestProof}
 use Rattle.mb_problem.specs.declared.kind.BestProof.TheVariants.{Duals, LighterBarrier, OuterPaths}
 use Rattle.mb_problem.specs.declared.answer.Answer.{Answer}
@@ -34,8 +34,8 @@ reached-matchable LighterBarrier kind i answer other r = r
 reached-matchable OuterPaths kind i answer other r = absurd (other refl)
 
 -- a kind whose answers barriers exclude isn't the one whose answers paths prove best
-barred-other : (kind : Kind) → exclusion_of kind ≡ Barrier → proof_of kind ≡ OuterPaths → ⊥
-barred-other kind excluded paths = (let same = ap exclusion_of (only-gallai kind paths) in absurd (cc))
+barred-other : (kind : Kind) → obstruction_of kind ≡ Barrier → proof_of kind ≡ OuterPaths → ⊥
+barred-other kind excluded paths = (let same = ap obstruction_of (only-gallai kind paths) in absurd (cc))
 
 -- no sets are asked for but beside paths
 no_sets : (proof : BestProof) (i : Network) (d : Document) → (proof ≡ OuterPaths → ⊥) → StatesSetsBy proof i d
@@ -93,7 +93,7 @@ best-by_barrier kind i d is ok =
     ))
 
 -- each answer of a kind that barriers exclude has a perfect matching: where there is none, there is no answer
-pub no_answer : (kind : Kind) (i : Network) → exclusion_of kind ≡ Barrier → ReachesAll kind i → ((counts : List ℕ) → IsPerfect (gadget_graph kind i) counts → ⊥) →
+pub no_answer : (kind : Kind) (i : Network) → obstruction_of kind ≡ Barrier → ReachesAll kind i → ((counts : List ℕ) → IsPerfect (gadget_graph kind i) counts → ⊥) →
     HasNoAnswer kind i
 no_answer kind i excluded reached none answer feasible = (let r = reached-matchable (proof_of kind) kind i answer (barred-other kind excluded) (reached answer feasible) in none r.0 r.1)
 

@@ -1,6 +1,7 @@
 -- Where no line is at fault every number is in its range.
 use Rattle.mb_problem.proofs.Common.{◌≡◌, ℕ, zero, suc, ◌+◌, ◌<◌, ℤ, pos, neg_ℤ, nat_abs, ◌≤ℤ◌, Bool, true, false, not, cond, List, [], ◌∷◌}
-use Rattle.mb_problem.proofs.Common.{length, map, get_or, All, Option, None, Some, IfSome, refl, sym, ◌∙◌, subst, arith, int_le, option_map, option_or, list_all, AllByRecursion, find, and_parts, and_from}
+use Rattle.mb_problem.proofs.Common.{length, map, get_or, All, Option, None, Some, IfSome, refl, sym, ◌∙◌, subst, arith, int_le, option_map, option_or, list_all, AllByRecursion, find}
+use Rattle.mb_problem.proofs.Common.{and_parts, and_from}
 use Rattle.mb_problem.proofs.Common.{All-nil, All-cons, All-weaker, NUMBER_LIMIT, IsNumber, Network, vertices, int_le-true, int_le-yes}
 use Rattle.mb_problem.specs.declared.kind.Kind.{Kind}
 use Rattle.mb_problem.specs.declared.limits.TheConstants.{VALUE_LIMIT}

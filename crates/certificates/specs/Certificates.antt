@@ -3,17 +3,18 @@ use Rattle.std.specs.Prelude.{◌≡◌, ◌≢◌, ℕ, ◌<◌, ◌≤◌, ◌
 use Rattle.std.specs.Prelude.{◌==◌, Bool, true, List, [], ◌∷◌, length, slice_index_or, All, ⊤}
 use Rattle.std.specs.Prelude.{MatchOption, nat_abs}
 use Rattle.graph_theory.specs.Barrier.{IsBarrier}
-use Rattle.outer_sets.specs.Decomposition.{IsEvenPath, IsDecomposed}
+use Rattle.gallai_theory.specs.Decomposition.{IsEvenPath, IsDecomposed}
 use Rattle.graph_theory.specs.Duals.{DualSet, slack, dual_value}
 use Rattle.graph_theory.specs.OddSets.{HasItemForm, listed_sets}
 use Rattle.graph_theory.specs.Parts.{holds, IsOddPart, IsSplitPart}
 use Rattle.graph_theory.specs.Walk.{IsCircuit, walk_weight}
 use Rattle.mb_problem.specs.declared.kind.Kind.{Kind}
-use Rattle.mb_problem.specs.declared.kind.Exclusion.{Exclusion}
-use Rattle.mb_problem.specs.declared.kind.Exclusion.TheVariants.{Barrier, OddPart, SplitPart, Never}
+use Rattle.mb_problem.specs.declared.kind.Obstruction.{Obstruction}
+use Rattle.mb_problem.specs.declared.kind.Obstruction.TheVariants.{Barrier, OddPart, SplitPart}
+use Rattle.mb_problem.specs.declared.kind.Obstruction.TheVariants.{Never}
 use Rattle.mb_problem.specs.declared.kind.BestProof.{BestProof}
 use Rattle.mb_problem.specs.declared.kind.BestProof.TheVariants.{Duals, LighterBarrier, OuterPaths}
-use Rattle.mb_problem.specs.Kinds.{exclusion_of, proof_of}
+use Rattle.mb_problem.specs.Kinds.{obstruction_of, proof_of}
 use Rattle.mb_problem.specs.Network.{Network, vertices, graph_of, value_of}
 use Rattle.mb_problem.specs.Feasible.{IsFeasible, weight_of}
 use Rattle.mb_problem.specs.Values.{value_for}
@@ -168,14 +169,14 @@ HasNegativeCircuit i d = MatchOption d.walk ⊥
 
 -- the barrier, if that is what excludes all answers; a kind that always has an answer has no
 -- infeasible document
-abbrev pub HasBarrierFor : Exclusion → Kind → Network → Document → Type 0
+abbrev pub HasBarrierFor : Obstruction → Kind → Network → Document → Type 0
 HasBarrierFor Barrier kind i d = HasBarrier kind i d
 HasBarrierFor OddPart kind i d = ⊤
 HasBarrierFor SplitPart kind i d = ⊤
 HasBarrierFor Never kind i d = ⊥
 
 -- the part that no edge leaves, if that is what excludes all answers
-abbrev pub HasPartFor : Exclusion → Network → Document → Type 0
+abbrev pub HasPartFor : Obstruction → Network → Document → Type 0
 HasPartFor Barrier i d = ⊤
 HasPartFor OddPart i d = HasOddPart i d
 HasPartFor SplitPart i d = HasSplitPart i d
@@ -183,7 +184,7 @@ HasPartFor Never i d = ⊤
 
 -- the barrier that an infeasible document of a kind with u lines needs
 abbrev pub HasWantedBarrier : Kind → Network → Document → Type 0
-HasWantedBarrier kind i d = HasBarrierFor (exclusion_of kind) kind i d
+HasWantedBarrier kind i d = HasBarrierFor (obstruction_of kind) kind i d
 
 -- the barrier that a document needs, by its status
 abbrev pub HasBarrierByStatus : DocStatus → Kind → Network → Document → Type 0
@@ -193,4 +194,4 @@ HasBarrierByStatus NonConservative kind i d = ⊤
 
 -- the closed part that an infeasible document of a kind with t or q lines needs
 abbrev pub HasWantedPart : Kind → Network → Document → Type 0
-HasWantedPart kind i d = HasPartFor (exclusion_of kind) i d
+HasWantedPart kind i d = HasPartFor (obstruction_of kind) i d

@@ -24,7 +24,7 @@ use weighted_graph::Graph;
 pub fn certified_vertices(instance: &Instance, kind: Kind) -> u32
     requires { IsWithinLimits (size_of kind instance.now) }
     ensures count { result ≡ (gadget_graph kind instance.now).vertices }
-    ensures few { result ≤ GRAPH_VERTEX_LIMIT }
+    ensures size_limit { result ≤ GRAPH_VERTEX_LIMIT }
 {
     let (vertices, _) = certified_size(instance, kind);
     vertices as u32
@@ -34,7 +34,7 @@ pub fn certified_vertices(instance: &Instance, kind: Kind) -> u32
 fn plain(instance: &Instance) -> Result<Graph, OutOfMemory>
     ensures graph { IfOk result (λ h. h ≡ plain_graph instance.now) }
     ensures size { HasSize (size_of Perfect instance.now) (plain_graph instance.now) }
-    ensures plain { IfOk result HasNoLoop }
+    ensures loopless { IfOk result HasNoLoop }
     ensures reached { ReachesAll Perfect instance.now }
 {
     prove!(instance.vertices() <= VERTEX_LIMIT);
@@ -46,7 +46,7 @@ fn build(alloc: Global, instance: &Instance, gadget: GadgetForm) -> Result<Graph
     requires limits { IsWithinLimits (size_by gadget instance.now) }
     ensures graph { IfOk result (λ h. h ≡ graph_by gadget instance.now) }
     ensures size { IfOk result (HasSize (certified_by gadget instance.now)) }
-    ensures plain { IfOk result HasNoLoop }
+    ensures loopless { IfOk result HasNoLoop }
     ensures reached { ReachesAllBy gadget instance.now }
     ensures network { IsNetwork instance.now }
 {
@@ -77,13 +77,13 @@ pub fn certified(alloc: Global, instance: &Instance, kind: Kind) -> Result<Graph
     requires weights { HasNeededWeights kind instance.now }
     ensures graph { IfOk result (λ h. h ≡ gadget_graph kind instance.now) }
     ensures size { IfOk result (HasSize (certified_size kind instance.now)) }
-    ensures plain { IfOk result HasNoLoop }
+    ensures loopless { IfOk result HasNoLoop }
 
     // The certificate graph of an instance, in which each feasible answer has its perfect matching.
     ensures reached { IfOk result (λ h. ReachesAll kind instance.now) }
 
     // Both are what `laws` asks of an instance and its graph.
-    ensures good { IfOk result (λ h. IsGraph (gadget_graph kind instance.now)) }
+    ensures is_graph { IfOk result (λ h. IsGraph (gadget_graph kind instance.now)) }
     ensures network { IsNetwork instance.now }
 {
     let graph = build(alloc, instance, kind.gadget())?;

@@ -9,5 +9,5 @@ pub fn laws()
     // matching in the certificate graph.
     ensures proved { ProvedIsTrue }
 {
-    outer_sets::laws();
+    gallai_theory::laws();
 }

@@ -51,34 +51,34 @@ linked_with next previous h a linked differ alone =
           elsewhere next a h (next h) a (previous x) (λ q. ne (forth ∙ ap next q ∙ alone)) (λ q. other (forth ∙ ap next q)) ∙ linked.forth x));
     }
 
--- who owns another place than one whose seed is changed
-owner_kept : (count : ℕ) (seed : ℕ → Option ℕ) (a : ℕ) (o : Option ℕ) (y : ℕ) → y ≢ a → owner count (put seed a o) y ≡ owner count seed y
-owner_kept count seed a o y ne = ap (λ (q : Option ℕ). cond (nat_lt y count) q (Some (y - count))) (put_other seed a o y ne)
+-- who owns another place than one whose tree id is changed
+owner_kept : (count : ℕ) (tree_id : ℕ → Option ℕ) (a : ℕ) (o : Option ℕ) (y : ℕ) → y ≢ a → owner count (put tree_id a o) y ≡ owner count tree_id y
+owner_kept count tree_id a o y ne = ap (λ (q : Option ℕ). cond (nat_lt y count) q (Some (y - count))) (put_other tree_id a o y ne)
 
 -- the beginning of the list of v
-owner_start : (count : ℕ) (seed : ℕ → Option ℕ) (v : ℕ) → owner count seed (count + v) ≡ Some v
-owner_start count seed v = grind (arith, nat_tests)
+owner_start : (count : ℕ) (tree_id : ℕ → Option ℕ) (v : ℕ) → owner count tree_id (count + v) ≡ Some v
+owner_start count tree_id v = grind (arith, nat_tests)
 
 -- whose list a place is on, below the count and past it
-module _ (count : ℕ) (seed : ℕ → Option ℕ) (next previous : ℕ → ℕ) (linked : AreLinked next previous) (h : AreOwned count seed next previous) where
+module _ (count : ℕ) (tree_id : ℕ → Option ℕ) (next previous : ℕ → ℕ) (linked : AreLinked next previous) (h : AreOwned count tree_id next previous) where
   -- the node before has the same owner
-  same_off : (a : ℕ) (x : ℕ) → owner count (put seed a None) (links_without next previous a x) ≡ owner count (put seed a None) x
+  same_off : (a : ℕ) (x : ℕ) → owner count (put tree_id a None) (links_without next previous a x) ≡ owner count (put tree_id a None) x
   same_off a x =
-      let Same : ℕ → Type 0 = λ y. owner count (put seed a None) y ≡ owner count (put seed a None) x in
-      put_both Same (put next (previous a) (next a)) a a x (λ e. ap (owner count (put seed a None)) (sym e))
+      let Same : ℕ → Type 0 = λ y. owner count (put tree_id a None) y ≡ owner count (put tree_id a None) x in
+      put_both Same (put next (previous a) (next a)) a a x (λ e. ap (owner count (put tree_id a None)) (sym e))
       (λ ne. put_both Same next (previous a) (next a) x
-      (λ e. owner_kept count seed a None (next a) (λ q. ne (e ∙ ap previous (sym q) ∙ linked.back a)) ∙ h.same a
-      ∙ ap (owner count seed) (sym (linked.forth a)) ∙ h.same (previous a) ∙ ap (owner count seed) (sym e) ∙ sym (owner_kept count seed a None x ne))
-      (λ other. owner_kept count seed a None (next x) (λ q. other (sym (linked.back x) ∙ ap previous q)) ∙ h.same x ∙ sym (owner_kept count seed a None x ne)))
+      (λ e. owner_kept count tree_id a None (next a) (λ q. ne (e ∙ ap previous (sym q) ∙ linked.back a)) ∙ h.same a
+      ∙ ap (owner count tree_id) (sym (linked.forth a)) ∙ h.same (previous a) ∙ ap (owner count tree_id) (sym e) ∙ sym (owner_kept count tree_id a None x ne))
+      (λ other. owner_kept count tree_id a None (next x) (λ q. other (sym (linked.back x) ∙ ap previous q)) ∙ h.same x ∙ sym (owner_kept count tree_id a None x ne)))
 
-  pub owned_without : (a : ℕ) → a < count → is_some (seed a) ≡ true → AreOwned count (put seed a None) (links_without next previous a) (links_without previous next a)
+  pub owned_without : (a : ℕ) → a < count → is_some (tree_id a) ≡ true → AreOwned count (put tree_id a None) (links_without next previous a) (links_without previous next a)
   owned_without a low there = record {
     same = same_off a;
     rank = h.rank;
     bound = h.bound;
     low = h.low;
     rises = λ x some down.
-        let was : (x ≢ a) × (is_some (seed x) ≡ true) = grind (arith, nat_tests) in
+        let was : (x ≢ a) × (is_some (tree_id x) ≡ true) = grind (arith, nat_tests) in
         ⊎_elim
         (λ (after : x ≡ next a).
         let from : previous x ≡ a = ap previous after ∙ linked.back a in
@@ -94,20 +94,20 @@ module _ (count : ℕ) (seed : ℕ → Option ℕ) (next previous : ℕ → ℕ)
 
   -- put behind the beginning of the list of v
   pub owned_with : (a : ℕ) → a < count → (v : ℕ) → next a ≡ a
-      → AreOwned count (put seed a (Some v)) (next_with next (count + v) a) (previous_with next previous (count + v) a)
+      → AreOwned count (put tree_id a (Some v)) (next_with next (count + v) a) (previous_with next previous (count + v) a)
   owned_with a low v alone =
       let start : ℕ = count + v in
-      let kept : (y : ℕ) → y ≢ a → owner count (put seed a (Some v)) y ≡ owner count seed y = owner_kept count seed a (Some v) in
-      let new : owner count (put seed a (Some v)) a ≡ Some v = grind (arith, nat_tests) in
+      let kept : (y : ℕ) → y ≢ a → owner count (put tree_id a (Some v)) y ≡ owner count tree_id y = owner_kept count tree_id a (Some v) in
+      let new : owner count (put tree_id a (Some v)) a ≡ Some v = grind (arith, nat_tests) in
       let only : (x : ℕ) → next x ≡ a → x ≡ a = λ x q. one_next next previous x a linked.back (q ∙ sym alone) in
       let high : ℕ = h.bound + 1 in
       record {
         same = λ x.
-            let Same : ℕ → Type 0 = λ y. owner count (put seed a (Some v)) y ≡ owner count (put seed a (Some v)) x in
+            let Same : ℕ → Type 0 = λ y. owner count (put tree_id a (Some v)) y ≡ owner count (put tree_id a (Some v)) x in
             put_both Same (put next start a) a (next start) x
-            (λ e. kept (next start) (λ q. absurd (omega (arith, low, only start q))) ∙ h.same start ∙ owner_start count seed v
-            ∙ sym (ap (owner count (put seed a (Some v))) e ∙ new))
-            (λ ne. put_both Same next start a x (λ e. new ∙ sym (kept x ne ∙ ap (owner count seed) e ∙ owner_start count seed v))
+            (λ e. kept (next start) (λ q. absurd (omega (arith, low, only start q))) ∙ h.same start ∙ owner_start count tree_id v
+            ∙ sym (ap (owner count (put tree_id a (Some v))) e ∙ new))
+            (λ ne. put_both Same next start a x (λ e. new ∙ sym (kept x ne ∙ ap (owner count tree_id) e ∙ owner_start count tree_id v))
             (λ _. kept (next x) (λ q. ne (only x q)) ∙ h.same x ∙ sym (kept x ne)));
         rank = put h.rank a high;
         bound = high;
@@ -122,13 +122,13 @@ module _ (count : ℕ) (seed : ℕ → Option ℕ) (next previous : ℕ → ℕ)
               arith,
               own,
               put_other h.rank a high (previous x) (λ q. ne (sym (linked.forth x) ∙ ap next q ∙ alone)),
-              h.rises x (ap (λ (o : Option ℕ). is_some o) (sym (put_other seed a (Some v) x ne)) ∙ some) down,
+              h.rises x (ap (λ (o : Option ℕ). is_some o) (sym (put_other tree_id a (Some v) x ne)) ∙ some) down,
             )));
         alone = λ x below none.
             let Stays : ℕ → Type 0 = λ y. y ≡ x in
             put_both Stays (put next start a) a (next start) x
-            (λ e. let no : Some v ≡ None = sym (put_here seed a (Some v)) ∙ ap (put seed a (Some v)) (sym e) ∙ none in absurd (cc))
-            (λ ne. put_both Stays next start a x (λ e. absurd (omega (arith, e, below))) (λ _. h.alone x below (sym (put_other seed a (Some v) x ne) ∙ none)));
+            (λ e. let no : Some v ≡ None = sym (put_here tree_id a (Some v)) ∙ ap (put tree_id a (Some v)) (sym e) ∙ none in absurd (cc))
+            (λ ne. put_both Stays next start a x (λ e. absurd (omega (arith, e, below))) (λ _. h.alone x below (sym (put_other tree_id a (Some v) x ne) ∙ none)));
       }
 
 -- links lead to places within, since a place past them leads to itself

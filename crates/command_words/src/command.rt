@@ -3,7 +3,7 @@ ghost use Rattle.mb_problem.specs.Kinds.{vertex_value_of};
 ghost use Rattle.command_words.specs.Commands.{solve_named, check_named, marks_ends, has_ends};
 ghost use Rattle.command_words.specs.Commands.{is_made, trial_by};
 
-use crate::numbers::read_natural;
+use crate::natural::read_natural;
 use mb_problem::{EDGE_LIMIT, Kind, VERTEX_LIMIT, VertexValue};
 
 /// What the program is to do.

@@ -5,7 +5,7 @@
 
 mod command;
 mod form;
-mod numbers;
+mod natural;
 mod parse;
 mod read;
 

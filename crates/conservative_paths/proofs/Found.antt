@@ -23,7 +23,7 @@ join-even i join lists negative =
     let whole : weight g (listed_counts join (length i.edges)) ≡ walk_weight g join =
     ap (λ (n : ℕ). weight g (listed_counts join n)) (sym size) ∙ listed-weight g join lists.ascending lists.in_range in
     record {
-      small = λ k b. listed-small join (length i.edges) k (omega (arith, size, b));
+      value_limit = λ k b. listed-small join (length i.edges) k (omega (arith, size, b));
       even = λ v low high. lists.join.degrees v low high;
       negative = omega (arith, ints, negative, whole);
     }
@@ -90,7 +90,7 @@ drained g total left base t even r less settled =
     let S : ℕ → Type 0 = CountsNoneAt g left in
     record {
       even = record {
-        small = λ k b. let s = way.shared k b in let m = even.small k b in omega (arith, s, m);
+        value_limit = λ k b. let s = way.shared k b in let m = even.value_limit k b in omega (arith, s, m);
         even = λ v low high.
             let same : cond {A = ℕ} (eqb t.here v) 1 0 ≡ cond {A = ℕ} (eqb base v) 1 0 = ap (λ (x : ℕ). cond {A = ℕ} (eqb x v) 1 0) home in
             omega (arith, way.parity v low high, same);

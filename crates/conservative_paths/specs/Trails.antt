@@ -120,7 +120,7 @@ Advances g edge there old new (Some place) = ClosesBelow g edge there place old 
 
 -- counts 0 or 1 of even degrees that weigh less than 0
 pub record IsNegativeEven (g : Multigraph) (counts : List ℕ) : Type 0 where
-  pub small : (k : ℕ) → k < length g.edges → slice_index counts k ≤ 1
+  pub value_limit : (k : ℕ) → k < length g.edges → slice_index counts k ≤ 1
   pub even : (v : ℕ) → 1 ≤ v → v ≤ g.vertices → degree g counts v % 2 ≡ 0
   pub negative : weight g counts <ℤ pos 0
 

@@ -2,7 +2,7 @@ ghost use Rattle.std.specs.Prelude.{◌≡◌, ◌≢◌, ◌≤◌, ◌≤ℤ�
 ghost use Rattle.graph_theory.specs.Graph.{IsGraph, CountsNoneAt};
 ghost use Rattle.graph_theory.specs.Walk.{walk_weight};
 ghost use Rattle.weighted_graph.specs.Index.{IsIndex};
-ghost use Rattle.mb_problem.specs.declared.kind.Measure.TheVariants.{Total};
+ghost use Rattle.mb_problem.specs.declared.kind.Cost.TheVariants.{Total};
 ghost use Rattle.mb_problem.specs.Network.{graph_of, vertices};
 ghost use Rattle.mb_problem.specs.Feasible.{IsWalkWith, weight_by};
 ghost use Rattle.mb_problem.specs.Joins.{ListsJoin, odd_between, HasNoNegativeEvenSet};

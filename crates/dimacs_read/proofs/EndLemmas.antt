@@ -5,8 +5,8 @@ use Rattle.mb_problem.proofs.Common.{length-map, get_or-map, get_or_past, ext_ge
 use Rattle.mb_problem.proofs.Common.{default_value_of, default_by, vertex_value_of, need_of, has_bounds}
 use Rattle.mb_problem.specs.declared.instance.InstanceEdge.{InstanceEdge}
 use Rattle.mb_problem.specs.declared.kind.Kind.{Kind}
-use Rattle.mb_problem.specs.declared.kind.Need.{Need}
-use Rattle.mb_problem.specs.declared.kind.Need.TheVariants.{Unrestricted, WeightsFromZero, Ends, EndsAndWeightsFromZero}
+use Rattle.mb_problem.specs.declared.kind.Precondition.{Precondition}
+use Rattle.mb_problem.specs.declared.kind.Precondition.TheVariants.{Unrestricted, WeightsFromZero, Ends, EndsAndWeightsFromZero}
 use Rattle.mb_problem.specs.declared.kind.VertexValue.{VertexValue}
 use Rattle.mb_problem.specs.declared.kind.VertexValue.TheVariants.{Unused, Degree, Parity, End, Bounds}
 use Rattle.mb_problem.specs.declared.limits.TheConstants.{VALUE_LIMIT}
@@ -58,7 +58,7 @@ either_place : (a b : Option Fault) (lines : ℕ) (f : Fault) → (a ≡ some_fa
 either_place None b lines f ha hb e = hb e
 either_place (Some a) b lines f ha hb e = ha e
 
-need_place : (need : Need) (values : List ℕ) (neg : Option ℕ) (lines : ℕ) (f : Fault) → ((k : ℕ) → neg ≡ Some k → k ≤ lines) → need_fault need values neg lines ≡ some_fault f →
+need_place : (need : Precondition) (values : List ℕ) (neg : Option ℕ) (lines : ℕ) (f : Fault) → ((k : ℕ) → neg ≡ Some k → k ≤ lines) → need_fault need values neg lines ≡ some_fault f →
     f.place ≤ lines
 need_place Unrestricted values neg lines f h e = absurd cc
 need_place WeightsFromZero values neg lines f h e = negative_place neg lines f h e
@@ -167,23 +167,23 @@ module _ (kind : Kind) (rs : List Row) (h : Option Header) (vs : List (Option Gi
         | inl lt ↦
             let low = get_or-map low_or vs k None 0 lt in
             let high = get_or-map high_or vs k None 0 lt in
-            rw (low, high) (in_order (get_or vs k None) (so_far.small k None lt))
+            rw (low, high) (in_order (get_or vs k None) (so_far.value_limit k None lt))
         | inr le ↦ let out = get_or_past (map low_or vs) k 0 (omega (arith, le, length-map vs low_or)) in omega (arith, out)
       ]
 
   pub network : (g : Header) → h ≡ Some g → length es ≡ g.edges → IsNetwork (network_from kind vs es)
   network g e count =
-      let few = subst HasFewVertices e so_far.few in
+      let few = subst HasFewVertices e so_far.size_limit in
       let len : length (map (value_or (default_value_of kind)) vs) ≡ g.vertices = length-map vs (value_or (default_value_of kind)) ∙ header_count g e in
       record {
         few_vertices = omega (arith, few.0, len);
         few_edges = omega (arith, few.1, count);
         edges = λ j d lt. subst (λ (n : ℕ). IsInstanceEdge n (get_or es j d)) (sym len) (subst (λ (x : Option Header). FitsHeader x (get_or es j d)) e (so_far.fit j d lt));
-        values = All-map (λ b. b ≤ VALUE_LIMIT) (value_or (default_value_of kind)) vs (λ j d lt. small_value kind (get_or vs j d) (so_far.small j d lt));
+        values = All-map (λ b. b ≤ VALUE_LIMIT) (value_or (default_value_of kind)) vs (λ j d lt. small_value kind (get_or vs j d) (so_far.value_limit j d lt));
         low_each = length-map vs low_or ∙ sym (length-map vs (value_or (default_value_of kind)));
         high_each = length-map vs high_or ∙ sym (length-map vs (value_or (default_value_of kind)));
         ordered = placed;
-        highs = All-map (λ b. b ≤ VALUE_LIMIT) high_or vs (λ j d lt. small_high (get_or vs j d) (so_far.small j d lt));
+        highs = All-map (λ b. b ≤ VALUE_LIMIT) high_or vs (λ j d lt. small_high (get_or vs j d) (so_far.value_limit j d lt));
       }
 
   pub holds : (g : Header) → h ≡ Some g → end_fault_from kind (sizes h) vs (length es) neg (length rs) ≡ None → HoldsInstance kind rs (network_from kind vs es)

@@ -32,7 +32,7 @@ read_more bounds bytes k rest text after header values edges negative found begi
       after = begins.after_is ∙ ap (after_first is_line_feed) read.after ∙ sym (after_lines-one k bytes);
       so_far = goes_on bounds rs k (fields text) more at header values edges negative found read.so_far given;
       within = within_more bounds rs k (fields text) more at;
-      small = omega (arith, begins.shorter, read.small);
+      value_limit = omega (arith, begins.shorter, read.value_limit);
     }
 
 -- no line is left
@@ -41,7 +41,7 @@ pub draft_is : (bounds : Bool) (bytes : List ℕ) (draft : Draft)
     → IsDraft bounds bytes draft
 draft_is bounds bytes draft read none = record {
   lines = end_count (instance_rows (rows bytes)) draft.lines (read.left ∙ none) read.within;
-  short = omega (arith, read.small);
+  short = omega (arith, read.value_limit);
   so_far = read.so_far;
   rest = read.after;
 }

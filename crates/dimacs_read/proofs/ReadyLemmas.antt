@@ -6,8 +6,8 @@ use Rattle.mb_problem.proofs.Common.{Network, vertices, value_of}
 use Rattle.std.proofs.Common.{filter}
 use Rattle.mb_problem.specs.declared.instance.InstanceEdge.{InstanceEdge}
 use Rattle.mb_problem.specs.declared.kind.Kind.{Kind}
-use Rattle.mb_problem.specs.declared.kind.Need.{Need}
-use Rattle.mb_problem.specs.declared.kind.Need.TheVariants.{Unrestricted, WeightsFromZero, Ends, EndsAndWeightsFromZero}
+use Rattle.mb_problem.specs.declared.kind.Precondition.{Precondition}
+use Rattle.mb_problem.specs.declared.kind.Precondition.TheVariants.{Unrestricted, WeightsFromZero, Ends, EndsAndWeightsFromZero}
 use Rattle.dimacs_read.specs.declared.rule.Rule.TheVariants.{EdgeCount, Negative, PathEnds}
 use Rattle.dimacs_read.specs.declared.rule.Fault.{Fault}
 use Rattle.dimacs_read.specs.Rows.{is_edge}
@@ -175,13 +175,13 @@ module _ (i : Network) (rs : List Row) (lines : ℕ) (edges_are : i.edges ≡ ed
   ends_there : ends_fault i.values lines ≡ None → HasEnds i
   ends_there e = two_ends i (eqb-true (count_by is_odd i.values) 2 (ends_pass (eqb (count_by is_odd i.values) 2) (record { rule = PathEnds; place = lines }) e))
 
-  weights_there : (need : Need) → need_fault need i.values (first_place is_negative rs) lines ≡ None → HasWeightsBy need i
+  weights_there : (need : Precondition) → need_fault need i.values (first_place is_negative rs) lines ≡ None → HasWeightsBy need i
   weights_there Unrestricted e = tt
   weights_there WeightsFromZero e = from_zero e
   weights_there Ends e = tt
   weights_there EndsAndWeightsFromZero e = from_zero (neither (negative_fault (first_place is_negative rs)) (ends_fault i.values lines) e).0
 
-  needed_ends : (need : Need) → need_fault need i.values (first_place is_negative rs) lines ≡ None → HasEndsBy need i
+  needed_ends : (need : Precondition) → need_fault need i.values (first_place is_negative rs) lines ≡ None → HasEndsBy need i
   needed_ends Unrestricted e = tt
   needed_ends WeightsFromZero e = tt
   needed_ends Ends e = ends_there e

@@ -248,9 +248,9 @@ module _ (bounds : Bool) (rs : List Row) (k : ℕ) (row : Row) (more : List Row)
         edges_are = so_far.edges_are ∙ sym (edges_stay rs k row more at kind.1);
         negative_is = after_skipped neg k ∙ negative_stays neg so_far.negative_is kind.1;
         room = so_far.room;
-        few = so_far.few;
+        size_limit = so_far.size_limit;
         fit = so_far.fit;
-        small = so_far.small;
+        value_limit = so_far.value_limit;
       }
   goes_on h vs es neg (line.Header found) so_far given =
       let yes_header : is_header row ≡ true = sym (is_header-six row) ∙ given.1.1 in
@@ -267,9 +267,9 @@ module _ (bounds : Bool) (rs : List Row) (k : ℕ) (row : Row) (more : List Row)
         edges_are = so_far.edges_are ∙ sym (edges_stay rs k row more at kind.0);
         negative_is = after_header neg found k ∙ negative_stays neg so_far.negative_is kind.0;
         room = length-replicate found.vertices None;
-        few = given.1.3;
+        size_limit = given.1.3;
         fit = λ j d lt. absurd (subst (λ (x : Option Header). FitsHeader x (get_or es j d)) no_one (so_far.fit j d lt));
-        small = All-replicate (λ (o : Option Given). IfSome o IsGiven) found.vertices None tt;
+        value_limit = All-replicate (λ (o : Option Given). IfSome o IsGiven) found.vertices None tt;
       }
   goes_on h vs es neg (line.Edge e) so_far given =
       let is_one : is_edge row ≡ true = sym (is_edge-six row) ∙ given.1.2 in
@@ -282,9 +282,9 @@ module _ (bounds : Bool) (rs : List Row) (k : ℕ) (row : Row) (more : List Row)
             ∙ sym (edges_grow rs k row more at is_one);
         negative_is = after_edge neg e k ∙ ap (λ (b : Bool). or_here neg b k) (sym (edge_negative row e is_one value)) ∙ sym (negative_more neg so_far.negative_is);
         room = so_far.room;
-        few = so_far.few;
+        size_limit = so_far.size_limit;
         fit = All-push (FitsHeader h) es e so_far.fit given.1.4;
-        small = so_far.small;
+        value_limit = so_far.value_limit;
       }
   goes_on h vs es neg (line.Node node) so_far given =
       let is_one : is_node row ≡ true = sym (is_node-six row) ∙ given.1.2 in
@@ -306,9 +306,9 @@ module _ (bounds : Bool) (rs : List Row) (k : ℕ) (row : Row) (more : List Row)
         edges_are = so_far.edges_are ∙ sym (edges_stay rs k row more at no_edge);
         negative_is = after_node neg node k ∙ negative_stays neg so_far.negative_is no_edge;
         room = room_set h (length vs) (length (slice_set vs (node.vertex - 1) (Some node.given))) so_far.room (length-set vs (node.vertex - 1) (Some node.given));
-        few = so_far.few;
+        size_limit = so_far.size_limit;
         fit = so_far.fit;
-        small = All-set (λ (o : Option Given). IfSome o IsGiven) vs (node.vertex - 1) (Some node.given) given.1.6 so_far.small;
+        value_limit = All-set (λ (o : Option Given). IfSome o IsGiven) vs (node.vertex - 1) (Some node.given) given.1.6 so_far.value_limit;
       }
 
   pub stops : (h : Option Header) (vs : List (Option Given)) (es : List InstanceEdge) (neg : Option ℕ) (rule : Rule) → IsRead bounds rs k h vs es neg →

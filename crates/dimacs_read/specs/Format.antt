@@ -10,9 +10,10 @@ use Rattle.std.specs.Str.{bytes_eq}
 use Rattle.mb_base.specs.Text.{numeral}
 use Rattle.mb_base.specs.Rows.{Row, field_at, is_skipped}
 use Rattle.mb_problem.specs.declared.kind.Kind.{Kind}
-use Rattle.mb_problem.specs.declared.kind.Need.{Need}
-use Rattle.mb_problem.specs.declared.kind.Need.TheVariants.{Unrestricted, WeightsFromZero, Ends}
-use Rattle.mb_problem.specs.declared.kind.Need.TheVariants.{EndsAndWeightsFromZero}
+use Rattle.mb_problem.specs.declared.kind.Precondition.{Precondition}
+use Rattle.mb_problem.specs.declared.kind.Precondition.TheVariants.{Unrestricted, WeightsFromZero}
+use Rattle.mb_problem.specs.declared.kind.Precondition.TheVariants.{Ends}
+use Rattle.mb_problem.specs.declared.kind.Precondition.TheVariants.{EndsAndWeightsFromZero}
 use Rattle.mb_problem.specs.declared.instance.InstanceEdge.{InstanceEdge}
 use Rattle.graph_theory.specs.declared.limits.TheConstants.{WEIGHT_LIMIT}
 use Rattle.mb_problem.specs.declared.limits.TheConstants.{VERTEX_LIMIT, EDGE_LIMIT, VALUE_LIMIT}
@@ -225,7 +226,7 @@ ends_fault values lines = if count_by is_odd values == 2 then None
 
 -- what an instance of these values lacks, whose first edge of negative weight stands at this place,
 -- if there is one, and which has so many lines
-abbrev pub need_fault : Need → List ℕ → Option ℕ → ℕ → Option Fault
+abbrev pub need_fault : Precondition → List ℕ → Option ℕ → ℕ → Option Fault
 need_fault Unrestricted values first lines = None
 need_fault WeightsFromZero values first lines = negative_fault first
 need_fault Ends values first lines = ends_fault values lines

@@ -5,5 +5,5 @@ pub mod Rest
 pub mod Line
 pub mod Reading
 pub mod Plain
-pub mod Turn
+pub mod LineResult
 pub mod Law

@@ -1,5 +1,6 @@
 -- What the code says of one line, and of the whole text.
-use Rattle.std.specs.Prelude.{Bool, ◌≡◌, ◌≤◌, ◌==◌, ℕ, ◌+◌, ◌-◌, pos, int_lt, if◌then◌else◌, take, drop}
+use Rattle.std.specs.Prelude.{Bool, ◌≡◌, ◌≤◌, ◌==◌, ℕ, ◌+◌, ◌-◌, pos, int_lt, if◌then◌else◌, take}
+use Rattle.std.specs.Prelude.{drop}
 use Rattle.std.specs.Prelude.{map, slice_index_or, replicate, slice_set, length, List, [], ◌∷◌}
 use Rattle.std.specs.Prelude.{◌++◌, true, false}
 use Rattle.std.specs.Prelude.{Option, None, Some, Result, Ok, Err}
@@ -90,9 +91,9 @@ pub record IsRead (bounds : Bool) (rs : List Row) (k : ℕ) (header : Option Hea
   pub edges_are : edges ≡ edges_of (take k rs)
   pub negative_is : negative ≡ first_place is_negative (take k rs)
   pub room : HasValues header (length values)
-  pub few : HasFewVertices header
+  pub size_limit : HasFewVertices header
   pub fit : AllFit header edges
-  pub small : AreGiven values
+  pub value_limit : AreGiven values
 
 -- the first k lines of a text have been read without a fault, and this is what follows them
 pub record IsReadTo (bounds : Bool) (bytes : List ℕ) (k : ℕ) (rest : List ℕ)
@@ -102,7 +103,7 @@ pub record IsReadTo (bounds : Bool) (bytes : List ℕ) (k : ℕ) (rest : List �
   pub after : rest ≡ after_lines k bytes
   pub so_far : IsRead bounds (instance_rows (rows bytes)) k header values edges negative
   pub within : k ≤ length (instance_rows (rows bytes))
-  pub small : k + length rest ≤ length bytes
+  pub value_limit : k + length rest ≤ length bytes
 
 -- Edges are read on: from where lines have been read up to k, whatever vertices were given, to
 -- where they have been read up to l.

@@ -6,7 +6,7 @@ ghost use Rattle.dimacs_read.specs.Reading.{kind_fault_from, end_fault_from};
 
 use crate::line::{Given, Header, value_or};
 use crate::rule::{Fault, Rule};
-use mb_problem::{InstanceEdge, Kind, Need};
+use mb_problem::{InstanceEdge, Kind, Precondition};
 
 /// How many values are odd, those that were given and the defaults.
 fn odd_values(values: &[Option<Given>], default: u32) -> usize
@@ -49,10 +49,10 @@ fn kind_fault(
 {
     let default = kind.default_value();
     match kind.needs() {
-        Need::Unrestricted => None,
-        Need::WeightsFromZero => negative_fault(negative),
-        Need::Ends => ends_fault(values, default, lines),
-        Need::EndsAndWeightsFromZero => {
+        Precondition::Unrestricted => None,
+        Precondition::WeightsFromZero => negative_fault(negative),
+        Precondition::Ends => ends_fault(values, default, lines),
+        Precondition::EndsAndWeightsFromZero => {
             let ends = ends_fault(values, default, lines);
             negative_fault(negative).or(ends)
         }

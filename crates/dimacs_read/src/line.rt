@@ -151,7 +151,7 @@ pub fn read_header(earlier: Option<Header>, row: &[&[u8]]) -> Result<Header, Rul
 /// The edge of an edge line after a header, which has three to five fields.
 #[tactic(auto, unfolding(crate::specs::Format::edge_at))]
 fn read_ends(header: Header, row: &[&[u8]]) -> Result<InstanceEdge, Rule>
-    requires few { IsAnnounced header }
+    requires size_limit { IsAnnounced header }
     requires count { (nat_lt (length (field_list row.now)) 3
         || nat_lt 5 (length (field_list row.now))) ≡ false }
     ensures value { result ≡ edge_at (Some (sizes_of_header header)) (field_list row.now) }
@@ -234,14 +234,14 @@ fn read_valued(
     values: &[Option<Given>],
     row: &[&[u8]],
 ) -> Result<Node, Rule>
-    requires few { IsAnnounced header }
+    requires size_limit { IsAnnounced header }
     requires room { length values.now ≡ header.vertices }
     requires count { length row.now ≡ (if bounds then 4 else 3) }
     ensures value { result ≡ node_at bounds (Some (sizes_of_header header))
         (is_valued values.now) (field_list row.now) }
     ensures range { IfOk result
         (λ node. (1 ≤ node.vertex) × (node.vertex ≤ length values.now)) }
-    ensures small { IfOk result (λ node. IsGiven node.given) }
+    ensures value_limit { IfOk result (λ node. IsGiven node.given) }
 {
     let vertex = natural_field(row, 1, 1, header.vertices)?;
     let given = read_given(bounds, row)?;
@@ -260,13 +260,13 @@ pub fn read_node(
     values: &[Option<Given>],
     row: &[&[u8]],
 ) -> Result<Node, Rule>
-    requires few { HasFewVertices earlier }
+    requires size_limit { HasFewVertices earlier }
     requires room { HasValues earlier (length values.now) }
     ensures value { result
         ≡ node_at bounds (sizes earlier) (is_valued values.now) (field_list row.now) }
     ensures range { IfOk result
         (λ node. (1 ≤ node.vertex) × (node.vertex ≤ length values.now)) }
-    ensures small { IfOk result (λ node. IsGiven node.given) }
+    ensures value_limit { IfOk result (λ node. IsGiven node.given) }
 {
     let Some(header) = earlier else {
         return Err(Rule::HeaderMissing);

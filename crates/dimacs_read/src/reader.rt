@@ -8,7 +8,7 @@ ghost use Rattle.mb_problem.specs.Ready.{IsReady};
 ghost use Rattle.dimacs_read.specs.Rows.{instance_rows, is_header, is_edge, is_solution};
 ghost use Rattle.dimacs_read.specs.Format.{line_fault};
 ghost use Rattle.dimacs_read.specs.Line.{sizes, field_list, HasFewVertices, HasValues, is_valued};
-ghost use Rattle.dimacs_read.specs.Turn.{GivesTurn};
+ghost use Rattle.dimacs_read.specs.LineResult.{GivesTurn};
 ghost use Rattle.dimacs_read.specs.Reading.{GivesLine, Reads, ReadsLines, IsDraft, negative_after};
 ghost use Rattle.dimacs_read.specs.Reading.{network_from, ReadsOn};
 ghost use Rattle.dimacs_read.specs.declared.keep.Line.TheVariants.{Edge};
@@ -66,7 +66,7 @@ fn read_line(
     values: &[Option<Given>],
     row: &[&[u8]],
 ) -> Result<Line, Rule>
-    requires few { HasFewVertices earlier }
+    requires size_limit { HasFewVertices earlier }
     requires room { HasValues earlier (length values.now) }
     ensures { GivesLine bounds earlier (is_valued values.now) (length values.now)
         (field_list row.now) result }
@@ -122,7 +122,7 @@ fn first_negative(earlier: Option<u64>, line: &Line, place: u64) -> Option<u64>
 
 /// What the next line of an instance is, and what follows it.
 #[derive(Clone, Copy)]
-pub enum Turn<'a> {
+pub enum LineResult<'a> {
     /// There is no line more, or the next is the first of a document.
     Ended,
     Broken(Rule),
@@ -135,22 +135,22 @@ fn any_turn<'a>(
     earlier: Option<Header>,
     values: &[Option<Given>],
     rest: &'a [u8],
-) -> Turn<'a>
-    requires few { HasFewVertices earlier }
+) -> LineResult<'a>
+    requires size_limit { HasFewVertices earlier }
     requires room { HasValues earlier (length values.now) }
     ensures { GivesTurn bounds earlier (is_valued values.now) (length values.now) rest.now
         result }
 {
     let Some((text, after)) = next_line(rest) else {
-        return Turn::Ended;
+        return LineResult::Ended;
     };
     if begins_solution(text) {
-        return Turn::Ended;
+        return LineResult::Ended;
     }
     let row = some_fields(text);
     match read_line(bounds, earlier, values, &row) {
-        Err(rule) => Turn::Broken(rule),
-        Ok(found) => Turn::Found(found, after),
+        Err(rule) => LineResult::Broken(rule),
+        Ok(found) => LineResult::Found(found, after),
     }
 }
 
@@ -163,7 +163,7 @@ fn keep_plain<'a>(
     line: &mut u64,
     rest: &'a [u8],
 ) -> Result<&'a [u8], OutOfMemory>
-    requires few { HasFewVertices header }
+    requires size_limit { HasFewVertices header }
     requires room { line.old + length rest.now < 2 ^ 64 }
     ensures reads { IfOk result (λ after. ReadsOn header line.old rest.now edges.old.items
         negative.old line.new after.now edges.new.items negative.new) }
@@ -203,14 +203,14 @@ fn read_lines<'a>(alloc: Global, bounds: bool, bytes: &'a [u8]) -> Result<Draft<
     'lines: while !rest.is_empty() {
         rest = keep_plain(header, &mut edges, &mut negative, &mut line, rest)?;
         match any_turn(bounds, header, &values, rest) {
-            Turn::Ended => break,
-            Turn::Broken(rule) => {
+            LineResult::Ended => break,
+            LineResult::Broken(rule) => {
                 return Err(InstanceError::Malformed {
                     rule,
                     line: line + 1,
                 });
             }
-            Turn::Found(found, after) => {
+            LineResult::Found(found, after) => {
                 negative = first_negative(negative, &found, line);
                 keep_line(alloc, &mut header, &mut values, &mut edges, found)?;
                 line += 1;
@@ -268,7 +268,7 @@ pub fn read(alloc: Global, bytes: &[u8], kind: Kind) -> Result<(Instance, Rest),
     ensures reading { Reads kind bytes.now result }
 
     // A tour's or parity path's instance has nonnegative weights, and a path's exactly two ends.
-    ensures ready { IfOk result (λ r. IsReady kind r.0) }
+    ensures well_formed { IfOk result (λ r. IsReady kind r.0) }
     ensures short { IfOk result (λ r. r.1.line ≤ length bytes.now + 1) }
 {
     let draft = read_lines(alloc, kind.has_bounds(), bytes)?;

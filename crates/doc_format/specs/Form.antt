@@ -3,9 +3,9 @@ use Rattle.std.specs.Prelude.{◌≡◌, ℤ, pos, int_lt, nat_lt, ◌==◌, Lis
 use Rattle.std.specs.Prelude.{false, not, ◌&&◌, ◌||◌}
 use Rattle.std.specs.List.{list_all}
 use Rattle.mb_problem.specs.declared.kind.Kind.{Kind}
-use Rattle.mb_problem.specs.declared.kind.Exclusion.{Exclusion}
-use Rattle.mb_problem.specs.declared.kind.Exclusion.TheVariants as exclusion
-use Rattle.mb_problem.specs.Kinds.{asks_conservative, form_of, proof_of, exclusion_of}
+use Rattle.mb_problem.specs.declared.kind.Obstruction.{Obstruction}
+use Rattle.mb_problem.specs.declared.kind.Obstruction.TheVariants as obstruction
+use Rattle.mb_problem.specs.Kinds.{asks_conservative, form_of, proof_of, obstruction_of}
 use Rattle.doc_format.specs.declared.status.DocStatus.{DocStatus}
 use Rattle.doc_format.specs.declared.status.DocStatus.TheVariants.{Optimal, Infeasible}
 use Rattle.doc_format.specs.declared.status.DocStatus.TheVariants.{NonConservative}
@@ -18,15 +18,15 @@ pub use Rattle.doc_format.specs.Parts.{proves_best, excludes, is_circuit}
 
 -- ---- which statuses a kind has, and which letters they take
 
-abbrev pub is_never : Exclusion → Bool
-is_never exclusion.Never = true
+abbrev pub is_never : Obstruction → Bool
+is_never obstruction.Never = true
 is_never other = false
 
 -- Every kind can be optimal, and one that something excludes infeasible; those that ask for it have
 -- weights that aren't conservative.
 abbrev pub is_head : DocStatus → Kind → Bool
 is_head Optimal kind = true
-is_head Infeasible kind = not (is_never (exclusion_of kind))
+is_head Infeasible kind = not (is_never (obstruction_of kind))
 is_head NonConservative kind = asks_conservative kind
 
 abbrev pub is_best : DocStatus → Bool
@@ -36,7 +36,7 @@ is_best status = false
 -- the letters of a document of this status and kind
 abbrev pub takes : DocStatus → Kind → Letter → Bool
 takes Optimal kind l = proves_best l (proof_of kind) || answers l (form_of kind)
-takes Infeasible kind l = excludes l (exclusion_of kind)
+takes Infeasible kind l = excludes l (obstruction_of kind)
 takes NonConservative kind l = is_circuit l
 
 -- the part may stand in a document of this status and kind

@@ -8,8 +8,8 @@ use Rattle.mb_problem.specs.declared.kind.AnswerForm.{AnswerForm}
 use Rattle.mb_problem.specs.declared.kind.AnswerForm.TheVariants as form
 use Rattle.mb_problem.specs.declared.kind.BestProof.{BestProof}
 use Rattle.mb_problem.specs.declared.kind.BestProof.TheVariants.{Duals, LighterBarrier, OuterPaths}
-use Rattle.mb_problem.specs.declared.kind.Exclusion.{Exclusion}
-use Rattle.mb_problem.specs.declared.kind.Exclusion.TheVariants as exclusion
+use Rattle.mb_problem.specs.declared.kind.Obstruction.{Obstruction}
+use Rattle.mb_problem.specs.declared.kind.Obstruction.TheVariants as obstruction
 use Rattle.doc_format.specs.declared.part.CountLine.{CountLine}
 use Rattle.doc_format.specs.declared.part.WalkLine.{WalkLine}
 use Rattle.doc_format.specs.declared.part.DualLine.{DualLine}
@@ -87,23 +87,23 @@ abbrev pub is_walk : AnswerForm → Bool
 is_walk form.Counts = false
 is_walk form.Walk = true
 
-abbrev pub is_barrier : Exclusion → Bool
-is_barrier exclusion.Barrier = true
-is_barrier exclusion.OddPart = false
-is_barrier exclusion.SplitPart = false
-is_barrier exclusion.Never = false
+abbrev pub is_barrier : Obstruction → Bool
+is_barrier obstruction.Barrier = true
+is_barrier obstruction.OddPart = false
+is_barrier obstruction.SplitPart = false
+is_barrier obstruction.Never = false
 
-abbrev pub is_odd_part : Exclusion → Bool
-is_odd_part exclusion.Barrier = false
-is_odd_part exclusion.OddPart = true
-is_odd_part exclusion.SplitPart = false
-is_odd_part exclusion.Never = false
+abbrev pub is_odd_part : Obstruction → Bool
+is_odd_part obstruction.Barrier = false
+is_odd_part obstruction.OddPart = true
+is_odd_part obstruction.SplitPart = false
+is_odd_part obstruction.Never = false
 
-abbrev pub is_split_part : Exclusion → Bool
-is_split_part exclusion.Barrier = false
-is_split_part exclusion.OddPart = false
-is_split_part exclusion.SplitPart = true
-is_split_part exclusion.Never = false
+abbrev pub is_split_part : Obstruction → Bool
+is_split_part obstruction.Barrier = false
+is_split_part obstruction.OddPart = false
+is_split_part obstruction.SplitPart = true
+is_split_part obstruction.Never = false
 
 -- the letters of an answer
 abbrev pub answers : Letter → AnswerForm → Bool
@@ -140,7 +140,7 @@ proves_best letter.Even LighterBarrier = false
 proves_best letter.Even OuterPaths = true
 
 -- the letters of what excludes all answers
-abbrev pub excludes : Letter → Exclusion → Bool
+abbrev pub excludes : Letter → Obstruction → Bool
 excludes letter.Count e = false
 excludes letter.Walk e = false
 excludes letter.Dual e = false

@@ -2,7 +2,7 @@ ghost use Rattle.std.specs.Prelude.{◌≡◌};
 ghost use Rattle.doc_format.specs.Form.{is_head};
 
 use crate::status::DocStatus;
-use mb_problem::{Exclusion, Kind};
+use mb_problem::{Kind, Obstruction};
 
 /// What the first line of a document says, and its number.
 #[derive(Clone, Copy)]
@@ -19,7 +19,7 @@ pub fn fits(status: DocStatus, kind: Kind) -> bool
 {
     match status {
         DocStatus::Optimal => true,
-        DocStatus::Infeasible => kind.exclusion() != Exclusion::Never,
+        DocStatus::Infeasible => kind.obstruction() != Obstruction::Never,
         DocStatus::NonConservative => kind.asks_conservative(),
     }
 }

@@ -4,7 +4,7 @@ ghost use Rattle.doc_format.specs.Numbers.{◌>>=◌ as when_some, only_if};
 ghost use Rattle.doc_format.specs.Items.{reference_in, item_in, items, counted_items, led_items};
 ghost use Rattle.doc_format.specs.Items.{is_item};
 
-use crate::numbers::{kept_number, room_for};
+use crate::number_lists::{kept_number, room_for};
 use crate::part::SetItem;
 use mb_base::{Fields, OutOfMemory, Sequence};
 use std::alloc::Global;

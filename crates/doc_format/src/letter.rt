@@ -2,7 +2,7 @@ ghost use Rattle.std.specs.Prelude.{◌≡◌, ◌∷◌, [], bytes_eq};
 ghost use Rattle.doc_format.specs.Parts.{letter_named, rank, repeats};
 ghost use Rattle.doc_format.specs.Parts.{answers, proves_best, excludes, is_circuit};
 
-use mb_problem::{AnswerForm, BestProof, Exclusion};
+use mb_problem::{AnswerForm, BestProof, Obstruction};
 
 /// A letter that lines after the first begin with, in the order in which they stand.
 #[derive(Clone, Copy)]
@@ -140,8 +140,8 @@ impl Letter {
     }
 
     /// Whether what excludes all answers in this way has the letter.
-    pub fn excludes(self, exclusion: Exclusion) -> bool
-        ensures { result ≡ excludes self exclusion }
+    pub fn excludes(self, obstruction: Obstruction) -> bool
+        ensures { result ≡ excludes self obstruction }
     {
         match self {
             Letter::Count => false,
@@ -149,9 +149,9 @@ impl Letter {
             Letter::Dual => false,
             Letter::Set => false,
             Letter::Outer => false,
-            Letter::Barrier => exclusion == Exclusion::Barrier,
-            Letter::Odd => exclusion == Exclusion::OddPart,
-            Letter::Split => exclusion == Exclusion::SplitPart,
+            Letter::Barrier => obstruction == Obstruction::Barrier,
+            Letter::Odd => obstruction == Obstruction::OddPart,
+            Letter::Split => obstruction == Obstruction::SplitPart,
             Letter::Even => false,
         }
     }

@@ -14,7 +14,7 @@ mod items;
 mod law;
 mod letter;
 mod line_writing;
-mod numbers;
+mod number_lists;
 mod opening;
 mod order;
 mod part;

@@ -3,7 +3,7 @@ ghost use Rattle.doc_format.specs.Form.{is_best};
 ghost use Rattle.doc_format.specs.Rows.{weight_in, headed, head_at, IsTabled};
 
 use crate::head::{Head, fits};
-use crate::numbers::kept_number;
+use crate::number_lists::kept_number;
 use crate::status::DocStatus;
 use mb_base::Fields;
 use mb_problem::Kind;

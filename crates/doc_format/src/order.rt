@@ -52,7 +52,7 @@ fn takes(status: DocStatus, kind: Kind, letter: Letter) -> bool
 {
     match status {
         DocStatus::Optimal => letter.proves_best(kind.proof()) || letter.answers(kind.form()),
-        DocStatus::Infeasible => letter.excludes(kind.exclusion()),
+        DocStatus::Infeasible => letter.excludes(kind.obstruction()),
         DocStatus::NonConservative => letter.is_circuit(),
     }
 }

@@ -6,7 +6,7 @@ ghost use Rattle.doc_format.specs.Parts.{fields_say, part_in};
 use crate::ascent::is_ascending;
 use crate::items::led_items;
 use crate::letter::Letter;
-use crate::numbers::{counted_numbers, led_numbers, pair};
+use crate::number_lists::{counted_numbers, led_numbers, pair};
 use mb_base::{Fields, OutOfMemory, Sequence};
 use std::alloc::Global;
 

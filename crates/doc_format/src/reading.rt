@@ -21,7 +21,7 @@ fn open(bytes: &[u8], line: u64) -> Result<(Head, &[u8]), u64>
         (λ r. IsOpening line (rows bytes.now) (rows r.1.now) r.0)
         (IsFault line (rows bytes.now)) }
     ensures table { IfOk result (λ r. IsTabled r.0) }
-    ensures small { IfOk result (λ r. r.0.line + length r.1.now < line + length bytes.now) }
+    ensures size_limit { IfOk result (λ r. r.0.line + length r.1.now < line + length bytes.now) }
 {
     let mut rest = bytes;
     let mut number = line;

@@ -2,7 +2,8 @@
 use Rattle.certificates.proofs.Common.{◌≡◌, ℕ, suc, ◌+◌, ◌-◌, ◌<◌, ◌≤◌, ℤ, pos, ◌≤ℤ◌, true, List, [], ◌∷◌, length, map, get_or, All, refl, ap, sym}
 use Rattle.certificates.proofs.Common.{◌∙◌, subst, arith, get_or_default, get_or-map, length-map, All-get_or, OddSet, DualSet, IsNumber, no_set, set_at, AreNested, given_at, no_given}
 use Rattle.graph_theory.specs.OddSets.{lies_in}
-use Rattle.certificates.proofs.Common.{holds, cases_Bool, inl, inr, sum_to, holds_all, sum_to-add, sum_to-append, sum_to-same, SetItem, SetLine, set_of, vertices_first, IsItemWithin, IsSetDual, IsSetLineWithin}
+use Rattle.certificates.proofs.Common.{holds, cases_Bool, inl, inr, sum_to, holds_all, sum_to-add, sum_to-append, sum_to-same, SetItem, SetLine, set_of, vertices_first, IsItemWithin}
+use Rattle.certificates.proofs.Common.{IsSetDual, IsSetLineWithin}
 use Rattle.document_lines.specs.LastLines.{IsLineOf, NamesSet}
 use Rattle.document_lines.specs.Members.{AreWithin}
 use Rattle.document_lines.specs.Sets.{AreNamedOnce, AreOdd, ListsSets, item_total, set_from_last}
@@ -139,6 +140,6 @@ lists-sets n sets lines within positive numbers nested odd size each =
       once = named-once sets O inner long names;
       sorted = λ k d b. (let z = get_or lines k d in ap vertices_first (line_read sets lines k d each b).items ∙ items-sorted (set_of z).vertices (set_of z).references);
       within = λ k z b is. line_within n sets lines k z within positive numbers inner size each b is;
-      few = few-items n sets lines within inner size each;
+      size_limit = few-items n sets lines within inner size each;
       unread = λ k d b. (line_read sets lines k d each b).unread;
     }

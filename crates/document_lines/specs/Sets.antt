@@ -1,5 +1,6 @@
 -- The z lines of the sets of an engine, each by the sets before it.
-use Rattle.std.specs.Prelude.{◌≡◌, ◌⊎◌, ℕ, ◌+◌, ◌-◌, ◌<◌, ◌≤◌, true, false, List, [], ◌∷◌, length, map, All}
+use Rattle.std.specs.Prelude.{◌≡◌, ◌⊎◌, ℕ, ◌+◌, ◌-◌, ◌<◌, ◌≤◌, true, false, List, [], ◌∷◌, length}
+use Rattle.std.specs.Prelude.{map, All}
 use Rattle.graph_theory.specs.Duals.{DualSet, HasForm, set_at}
 use Rattle.graph_theory.specs.Nested.{AreAscending}
 use Rattle.graph_theory.specs.Parts.{holds}
@@ -51,5 +52,5 @@ pub record ListsSets (n : ℕ) (sets : List DualSet) (lines : List SetLine) : Ty
   pub once : AreNamedOnce (map set_of lines)
   pub sorted : All (λ z. vertices_first z.items ≡ true) lines
   pub within : AreSetLinesWithin n lines
-  pub few : item_total lines ≤ n + length lines
+  pub size_limit : item_total lines ≤ n + length lines
   pub unread : All (λ z. z.line ≡ 1) lines

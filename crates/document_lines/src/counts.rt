@@ -34,12 +34,12 @@ fn push_used(lines: &mut Vec<CountLine>, counts: &[u32], e: u32) -> Result<(), O
 /// The `x` lines of counts on `m` edges.
 fn used(alloc: Global, counts: &[u32], m: u32) -> Result<Vec<CountLine>, OutOfMemory>
     requires size { length counts.now ≡ m }
-    requires small { All (λ c. c ≤ VALUE_LIMIT) counts.now }
+    requires value_limit { All (λ c. c ≤ VALUE_LIMIT) counts.now }
     ensures counts { IfOk result (λ v. counts_of v.items (length counts.now) ≡ counts.now) }
     ensures ascending { IfOk result (λ v. AscendsBy (λ x. x.edge) v.items) }
     ensures unread { IfOk result (λ v. All (λ x. x.line ≡ 1) v.items) }
     ensures in_range { IfOk result (λ v. All (IsCountWithin (length counts.now)) v.items) }
-    ensures few { IfOk result (λ v. length v.items ≤ length counts.now) }
+    ensures size_limit { IfOk result (λ v. length v.items ≤ length counts.now) }
 {
     let mut lines = Vec::new(alloc);
     for place in 0..m {
@@ -56,14 +56,14 @@ pub fn count_lines(
     answer: &Answer,
 ) -> Result<Vec<CountLine>, OutOfMemory>
     requires places { HasPlaces instance.now answer.now }
-    requires small { HasSmallCounts answer.now }
+    requires value_limit { HasSmallCounts answer.now }
 
     // The lines that list an answer: exactly its edges with their counts, ascending.
     ensures counts { IfOk result (λ v. ListsAnswer answer.now v.items) }
     ensures ascending { IfOk result (λ v. AscendsBy (λ x. x.edge) v.items) }
     ensures unread { IfOk result (λ v. All (λ x. x.line ≡ 1) v.items) }
     ensures in_range { IfOk result (λ v. All (IsCountWithin (length instance.now.edges)) v.items) }
-    ensures few { IfOk result (λ v. length v.items ≤ length instance.now.edges) }
+    ensures size_limit { IfOk result (λ v. length v.items ≤ length instance.now.edges) }
 {
     match answer {
         Answer::Counts(counts) => used(alloc, counts.as_slice(), instance.edges()),

@@ -1,9 +1,10 @@
 -- Moments stay what they are while the clock moves along with a change of the duals.
 use Rattle.alt_forest.proofs.Common.{◌≡◌, ℕ, ℤ, pos, ◌+ℤ◌, ◌-ℤ◌, ◌≤ℤ◌, Option, Some, sym, ap, ◌∙◌, subst, arith, ints, NUMBER_LIMIT, IsGraph}
-use Rattle.alt_forest.proofs.Common.{IsEdgeNumber, IsNested, Moments, moment_of, State, slack_of, IsSound, state_of, NeedsMoment, IsBlossomEntered, HasNoTree, IsQueued, IsSeed, IsStanding}
+use Rattle.alt_forest.proofs.Common.{IsEdgeNumber, IsNested, Moments, moment_of, State, slack_of, IsSound, state_of, NeedsMoment, IsBlossomEntered, HasNoTree, IsQueued, IsTreeId}
+use Rattle.alt_forest.proofs.Common.{HasTreeNodes}
 use Rattle.alt_forest.proofs.Common.{root_of, nested_of}
 use Rattle.alt_forest.specs.declared.search.Search.{Search}
-use Rattle.edge_queue.specs.declared.item.Item.TheVariants.{Edge}
+use Rattle.search_heap.specs.declared.item.Item.TheVariants.{Edge}
 use Rattle.dual_change.specs.Changes.{applied}
 use Rattle.dual_change.proofs.Raised.{raised}
 use Rattle.dual_change.proofs.Least.{root_applied, left_to_out, left_between, left_inner}
@@ -32,9 +33,9 @@ module _ (s : State) (depth : ℕ → ℕ) (graph : IsGraph s.graph) (nested : I
   pub blossom_later : (q : Moments) (b : ℕ) → IsBlossomEntered s clock q b → IsBlossomEntered (applied s d) (clock +ℤ d) q b
   blossom_later q b h is lab = h is lab ∙ moment _ _ (with_clock clock d (s.dual b) ((applied s d).dual b) (left_inner s depth graph nested d b is lab))
 
--- a change moves no seed
-seed_later : (s : State) (d : ℤ) (a v : ℕ) → IsSeed s a v → IsSeed (applied s d) a v
-seed_later s d a v h = record { vertex = h.vertex; root = h.root ∙ sym (root_applied s d a) }
+-- a change moves no tree id
+tree_id_later : (s : State) (d : ℤ) (a v : ℕ) → IsTreeId s a v → IsTreeId (applied s d) a v
+tree_id_later s d a v h = record { vertex = h.vertex; root = h.root ∙ sym (root_applied s d a) }
 
 -- the search after a change, whose clock has gone on
 module _ (s t : Search) (d : ℤ) (rest : t ≡ raised s t.arena.duals (s.clock +ℤ d)) (state : state_of t ≡ applied (state_of s) d) where
@@ -51,16 +52,16 @@ module _ (s t : Search) (d : ℤ) (rest : t ≡ raised s t.arena.duals (s.clock 
         edges = λ e number. subst (λ z. NeedsMoment z x e (moment_of s.queue (Edge e))) (sym state_now)
             (edge_later (state_of s) sound.depth graph nested s.clock d e (moment_of s.queue (Edge e)) number (h.edges e number));
         blossoms = λ b name. subst (λ z. IsBlossomEntered z x s.queue b) (sym state_now) (blossom_later (state_of s) sound.depth graph nested s.clock d s.queue b (h.blossoms b name));
-        still = λ no. absurd (tree no);
+        idle_clock = λ no. absurd (tree no);
         empty = λ no item. absurd (tree no);
       })
 
-  pub standing_later : IsStanding s → IsStanding t
-  standing_later h = subst IsStanding (sym rest) (record {
+  pub tree_nodes_later : HasTreeNodes s → HasTreeNodes t
+  tree_nodes_later h = subst HasTreeNodes (sym rest) (record {
     listed = h.listed;
     trees = λ a outer in_it.
-        let seed = h.trees a outer in_it in
-        (seed.0, seed.1, subst (λ y. IsSeed y a seed.0) (sym state_now) (seed_later (state_of s) d a seed.0 seed.2));
+        let tree_id = h.trees a outer in_it in
+        (tree_id.0, tree_id.1, subst (λ y. IsTreeId y a tree_id.0) (sym state_now) (tree_id_later (state_of s) d a tree_id.0 tree_id.2));
     same = λ a b a_outer b_outer a_in b_in q.
         h.same a b a_outer b_outer a_in b_in (sym (root_now a) ∙ q ∙ root_now b);
     moves = h.moves;

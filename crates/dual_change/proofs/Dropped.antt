@@ -1,9 +1,9 @@
 -- A stale entry is dropped.
 use Rattle.alt_forest.proofs.Common.{◌≡◌, ◌⊎◌, ◌+◌, ◌<◌, ◌≤◌, ℤ, eqb, Some, None, refl, sym, ◌∙◌, subst, inl, arith, nat_tests, eqb-true, eqb-false}
-use Rattle.alt_forest.proofs.Common.{by_test, Item, Moments, moment_of, with_moment, IsItem, state_of, NeedsMoment, IsEntered, IsQueued, entry_count, IsStanding, edge_set, edge_other}
+use Rattle.alt_forest.proofs.Common.{by_test, Item, Moments, moment_of, with_moment, IsItem, state_of, NeedsMoment, IsEntered, IsQueued, entry_count, HasTreeNodes, edge_set, edge_other}
 use Rattle.alt_forest.proofs.Common.{blossom_set, blossom_other, count_removed, entered_same}
 use Rattle.alt_forest.specs.declared.search.Search.{Search}
-use Rattle.edge_queue.specs.declared.item.Item.TheVariants.{Edge, Blossom}
+use Rattle.search_heap.specs.declared.item.Item.TheVariants.{Edge, Blossom}
 use Rattle.dual_change.specs.Candidates.{IsStale, entries_left, item_looks}
 
 -- what has no moment gets none
@@ -33,7 +33,7 @@ dropped s (Edge e) is stale h = record {
       (subst (NeedsMoment (state_of s) s.clock e) (sym (edge_set s.queue e None is)) stale))
       (λ t. entered_same (state_of s) s.clock s.queue (with_moment s.queue (Edge e) None) d (edge_other s.queue e d None is (eqb-false d e t)) (h.edges d number));
   blossoms = h.blossoms;
-  still = h.still;
+  idle_clock = h.idle_clock;
   empty = λ no item. none_stays s.queue (Edge e) item is (h.empty no item);
 }
 dropped s (Blossom b) is stale h = record {
@@ -43,7 +43,7 @@ dropped s (Blossom b) is stale h = record {
   blossoms = λ c name outer lab. by_test (eqb c b)
       (λ t. absurd (subst (λ k. IsStale (state_of s) s.clock (Blossom k)) (sym (eqb-true c b t)) stale name outer lab))
       (λ t. blossom_other s.queue b c None is (eqb-false c b t) ∙ h.blossoms c name outer lab);
-  still = h.still;
+  idle_clock = h.idle_clock;
   empty = λ no item. none_stays s.queue (Blossom b) item is (h.empty no item);
 }
 
@@ -59,5 +59,5 @@ looks_dropped q (Edge e) m has = omega (arith, count_removed q e m has)
 looks_dropped q (Blossom b) m has = omega arith
 
 -- what stands in trees is not in the queue
-pub still_standing : (s t : Search) → t ≡ record s { queue = t.queue } → IsStanding s → IsStanding t
-still_standing s t rest h = subst IsStanding (sym rest) (record { listed = h.listed; trees = h.trees; same = h.same; moves = h.moves })
+pub still_tree_nodes : (s t : Search) → t ≡ record s { queue = t.queue } → HasTreeNodes s → HasTreeNodes t
+still_tree_nodes s t rest h = subst HasTreeNodes (sym rest) (record { listed = h.listed; trees = h.trees; same = h.same; moves = h.moves })

@@ -2,10 +2,10 @@
 use Rattle.alt_forest.proofs.Common.{◌≡◌, ◌≢◌, ℕ, ℤ, ◌+ℤ◌, ◌≤ℤ◌, true, Some, None, refl, sym, ◌∙◌, arith, ints, IsEdgeNumber, holds, names_of, Item}
 use Rattle.alt_forest.proofs.Common.{moment_of, IsLeast as IsLeastMoment, Outer, Inner, IsOutermost, Joins, slack_of, IsSound, state_of, ForMoment, IsQueued, needs_also, nested_of}
 use Rattle.alt_forest.specs.declared.search.Search.{Search}
-use Rattle.edge_queue.specs.declared.item.Item.TheVariants.{Edge, Blossom}
-use Rattle.event_bounds.specs.declared.bounds.EventBounds.{EventBounds}
-use Rattle.event_bounds.specs.Bounds.{IsBounding}
-use Rattle.event_bounds.proofs.Least.{least_edges, least_blossoms, none_edges, none_blossoms}
+use Rattle.search_heap.specs.declared.item.Item.TheVariants.{Edge, Blossom}
+use Rattle.search_keys.specs.declared.bounds.EventBounds.{EventBounds}
+use Rattle.search_keys.specs.Bounds.{IsBounding}
+use Rattle.search_keys.proofs.Least.{least_edges, least_blossoms, none_edges, none_blossoms}
 use Rattle.dual_change.specs.declared.event.Event.{Event}
 use Rattle.dual_change.specs.declared.event.Event.TheVariants.{Grow, Shrink, Augment, Expand}
 use Rattle.dual_change.specs.declared.event.Next.{Next}

@@ -1,13 +1,15 @@
 -- What the edge that gave a vertex its key, its hint, says of the vertex.
-use Rattle.alt_forest.proofs.Common.{◌≡◌, ◌≢◌, ℕ, ◌+◌, ◌≤◌, ℤ, Bool, true, false, eqb, eqb-true, eqb-false, cond, arith, length, Option, Some, None, refl, sym, ap, ap₂, ◌∙◌, ⊎_elim, both_ways, cases_eq}
-use Rattle.alt_forest.proofs.Common.{sum_to-add, sum_to-at_one, sum_to-same, vertex_range, edges_around, around-has, is_vertex, outermost, Label, Outer, Inner, Out, NeedsMoment, IsSound, state_of, joins_turned, nested_of}
+use Rattle.alt_forest.proofs.Common.{◌≡◌, ◌≢◌, ℕ, ◌+◌, ◌≤◌, ℤ, Bool, true, false, eqb, eqb-true, eqb-false, cond, arith, length, Option, Some, None, refl, sym, ap, ap₂, ◌∙◌, ⊎_elim}
+use Rattle.alt_forest.proofs.Common.{both_ways, cases_eq}
+use Rattle.alt_forest.proofs.Common.{sum_to-add, sum_to-at_one, sum_to-same, vertex_range, edges_around, around-has, is_vertex, outermost, Label, Outer, Inner, Out, NeedsMoment, IsSound}
+use Rattle.alt_forest.proofs.Common.{state_of, joins_turned, nested_of}
 use Rattle.alt_forest.proofs.Common.{some-member as some_length}
 use Rattle.alt_forest.specs.declared.search.Search.{Search}
-use Rattle.event_bounds.specs.declared.bounds.EventBounds.{EventBounds}
-use Rattle.event_bounds.specs.Bounds.{HasHints, hint_of, key_of}
-use Rattle.event_bounds.specs.Looks.{is_stale, is_stale_at, stale_ends}
-use Rattle.event_bounds.proofs.Gives.{key_none}
-use Rattle.event_bounds.proofs.Least.{IsHintAt}
+use Rattle.search_keys.specs.declared.bounds.EventBounds.{EventBounds}
+use Rattle.search_keys.specs.Bounds.{HasHints, hint_of, key_of}
+use Rattle.search_keys.specs.Looks.{is_stale, is_stale_at, stale_ends}
+use Rattle.search_keys.proofs.Gives.{key_none}
+use Rattle.search_keys.proofs.Least.{IsHintAt}
 use Rattle.dual_change.proofs.Least.{outer_slack_even}
 
 -- a vertex that is to be looked at anew has an edge

@@ -2,12 +2,12 @@
 use Rattle.alt_forest.proofs.Common.{◌≡◌, ℕ, ◌≤◌, ℤ, pos, ◌+ℤ◌, ◌-ℤ◌, ◌≤ℤ◌, true, [], refl, sym, ap, ◌∙◌, subst, arith, inr, ints, NUMBER_LIMIT}
 use Rattle.alt_forest.proofs.Common.{Multigraph, holds, is_vertex, names_of, outermost, Label, Outer, Inner, Out, moment_of, State, dual_sum, IsBlossomEntered, IsSound, state_of, nested_of}
 use Rattle.alt_forest.specs.declared.search.Search.{Search}
-use Rattle.event_bounds.specs.declared.bounds.EventBounds.{EventBounds}
-use Rattle.event_bounds.specs.Bounds.{HasHints, HasNearSums, IsBounding, reach}
-use Rattle.event_bounds.specs.Looks.{stale_ends}
-use Rattle.event_bounds.proofs.Kept.{IsKept, bounding_still}
-use Rattle.event_bounds.proofs.Near.{near_later}
-use Rattle.event_bounds.proofs.Stale.{KeepsOuter, stale_kept}
+use Rattle.search_keys.specs.declared.bounds.EventBounds.{EventBounds}
+use Rattle.search_keys.specs.Bounds.{HasHints, HasNearSums, IsBounding, reach}
+use Rattle.search_keys.specs.Looks.{stale_ends}
+use Rattle.search_keys.proofs.Kept.{IsKept, bounding_still}
+use Rattle.search_keys.proofs.Near.{near_later}
+use Rattle.search_keys.proofs.Stale.{KeepsOuter, stale_kept}
 use Rattle.dual_change.specs.Changes.{applied, share}
 use Rattle.dual_change.proofs.Applied.{dual_sum_grows}
 use Rattle.dual_change.proofs.Clock.{blossom_later}

@@ -3,9 +3,9 @@ use Rattle.alt_forest.proofs.Common.{◌≡◌, ◌≢◌, ℕ, ◌+◌, ◌≤�
 use Rattle.alt_forest.proofs.Common.{sum_to, sum_to-le, sum_to-add, sum_to-at_one, sum_to-same, IsNested, is_vertex, outermost, Inner, name_no_vertex, Moments, only_items_have, State}
 use Rattle.alt_forest.proofs.Common.{node_limit}
 use Rattle.alt_forest.specs.declared.search.Search.{Search}
-use Rattle.edge_queue.specs.declared.item.Item.TheVariants.{Blossom as OfNode}
-use Rattle.event_bounds.specs.declared.bounds.EventBounds.{EventBounds}
-use Rattle.event_bounds.specs.Bounds.{HasPlaces, IsIdle, bound_of}
+use Rattle.search_heap.specs.declared.item.Item.TheVariants.{Blossom as OfNode}
+use Rattle.search_keys.specs.declared.bounds.EventBounds.{EventBounds}
+use Rattle.search_keys.specs.Bounds.{HasPlaces, IsIdle, bound_of}
 use Rattle.dual_change.specs.Turns.{is_idle, idle_bounds}
 
 -- how much a test counts

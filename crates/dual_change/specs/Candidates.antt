@@ -4,9 +4,9 @@ use Rattle.blossom_arena.specs.declared.label.Label.TheVariants.{Inner}
 use Rattle.graph_theory.specs.Graph.{IsEdgeNumber}
 use Rattle.graph_theory.specs.Parts.{holds}
 use Rattle.blossom_arena.specs.Family.{names_of}
-use Rattle.edge_queue.specs.declared.item.Item.{Item}
-use Rattle.edge_queue.specs.declared.item.Item.TheVariants.{Edge as OfEdge, Blossom as OfBlossom}
-use Rattle.edge_queue.specs.Moments.{Moments}
+use Rattle.search_heap.specs.declared.item.Item.{Item}
+use Rattle.search_heap.specs.declared.item.Item.TheVariants.{Edge as OfEdge, Blossom as OfBlossom}
+use Rattle.search_heap.specs.Moments.{Moments}
 use Rattle.alt_forest.specs.declared.search.Search.{Search}
 use Rattle.alt_forest.specs.Searches.{state_of}
 use Rattle.alt_forest.specs.Entries.{NeedsMoment, entered_among}

@@ -3,14 +3,14 @@ use Rattle.std.specs.Prelude.{ℕ, ◌+◌, Bool, not, ◌&&◌, if◌then◌els
 use Rattle.graph_theory.specs.Sums.{sum_to}
 use Rattle.blossom_arena.specs.Family.{is_outermost, is_vertex, outermost}
 use Rattle.blossom_arena.specs.declared.label.Label.TheVariants.{Inner}
-use Rattle.edge_queue.specs.Moments.{Moments}
+use Rattle.search_heap.specs.Moments.{Moments}
 use Rattle.alt_forest.specs.declared.search.Search.{Search}
 use Rattle.alt_forest.specs.State.{State}
 use Rattle.alt_forest.specs.Searches.{state_of}
 use Rattle.alt_forest.specs.Trees.{is_label, node_limit}
-use Rattle.event_bounds.specs.declared.bounds.EventBounds.{EventBounds}
-use Rattle.event_bounds.specs.Bounds.{bound_of}
-use Rattle.event_bounds.specs.Looks.{stale_ends}
+use Rattle.search_keys.specs.declared.bounds.EventBounds.{EventBounds}
+use Rattle.search_keys.specs.Bounds.{bound_of}
+use Rattle.search_keys.specs.Looks.{stale_ends}
 
 -- whether nothing rests on the moment of a node: it is a vertex of an inner node, or no vertex and
 -- no inner node

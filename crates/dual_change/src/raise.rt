@@ -3,7 +3,7 @@ ghost use Rattle.graph_theory.specs.declared.limits.TheConstants.{NUMBER_LIMIT};
 ghost use Rattle.alt_forest.specs.Searches.{IsSound, state_of};
 ghost use Rattle.alt_forest.specs.Entries.{HasNoTree, IsQueued};
 ghost use Rattle.alt_forest.specs.Counts.{IsPlanted};
-ghost use Rattle.alt_forest.specs.Standing.{IsStanding};
+ghost use Rattle.alt_forest.specs.TreeNodes.{HasTreeNodes};
 ghost use Rattle.dual_change.specs.Changes.{applied, IsWithin, StaysInRange};
 
 use alt_forest::Search;
@@ -13,13 +13,13 @@ use std::sync::ledger::Ledger;
 /// Gives each node in a tree its share of a change of d, since each moves as its label says.
 fn raise_trees(search: &mut Search, d: i64)
     requires sound { IsSound search.old }
-    requires standing { IsStanding search.old }
-    requires planted { IsPlanted (state_of search.old) }
+    requires listed { HasTreeNodes search.old }
+    requires all_rooted { IsPlanted (state_of search.old) }
     requires low { pos 0 ≤ℤ d }
     requires within { IsWithin (state_of search.old) d }
     requires in_range { StaysInRange (state_of search.old) d }
     ensures state { state_of search.new ≡ applied (state_of search.old) d }
-    ensures rest { search.new
+    ensures frame { search.new
         ≡ record search.old { arena = record search.old.arena { duals = search.new.arena.duals } } }
     ensures sound { IsSound search.new }
 {
@@ -48,22 +48,22 @@ fn later(clock: i64, d: i64) -> i64
 /// Changes the duals along the trees by d, and the clock by as much, by one step.
 pub(crate) fn raise<L: Ledger>(search: &mut Search, d: i128, steps: &mut Steps<L>)
     requires sound { IsSound search.old }
-    requires standing { IsStanding search.old }
-    requires planted { IsPlanted (state_of search.old) }
+    requires listed { HasTreeNodes search.old }
+    requires all_rooted { IsPlanted (state_of search.old) }
     requires low { pos 0 ≤ℤ d }
     requires within { IsWithin (state_of search.old) d }
     requires in_range { StaysInRange (state_of search.old) d }
     requires start { pos 0 ≤ℤ search.old.clock }
     requires clock { (search.old.clock +ℤ d) ≤ℤ NUMBER_LIMIT }
     ensures state { state_of search.new ≡ applied (state_of search.old) d }
-    ensures rest { search.new
+    ensures frame { search.new
         ≡ record search.old {
           arena = record search.old.arena { duals = search.new.arena.duals };
           clock = search.old.clock +ℤ d;
         } }
     ensures sound { IsSound search.new }
-    ensures standing { IsStanding search.new }
-    ensures planted { IsPlanted (state_of search.new) }
+    ensures listed { HasTreeNodes search.new }
+    ensures all_rooted { IsPlanted (state_of search.new) }
     ensures step { steps.new ≡ steps.old + 1 }
 {
     let d = narrowed(d);
@@ -80,9 +80,9 @@ pub(crate) fn raise<L: Ledger>(search: &mut Search, d: i128, steps: &mut Steps<L
 /// all these keep one parity.
 pub fn apply<L: Ledger>(search: &mut Search, d: i128, steps: &mut Steps<L>)
     requires sound { IsSound search.old }
-    requires queued { IsQueued search.old }
-    requires standing { IsStanding search.old }
-    requires planted { IsPlanted (state_of search.old) }
+    requires event_times { IsQueued search.old }
+    requires listed { HasTreeNodes search.old }
+    requires all_rooted { IsPlanted (state_of search.old) }
     requires tree { HasNoTree (state_of search.old) → ⊥ }
     requires low { pos 0 ≤ℤ d }
     requires within { IsWithin (state_of search.old) d }
@@ -92,15 +92,15 @@ pub fn apply<L: Ledger>(search: &mut Search, d: i128, steps: &mut Steps<L>)
     // Adds d to each outer node's dual, takes d from each inner node's, and keeps the state and all
     // event times.
     ensures state { state_of search.new ≡ applied (state_of search.old) d }
-    ensures rest { search.new
+    ensures frame { search.new
         ≡ record search.old {
           arena = record search.old.arena { duals = search.new.arena.duals };
           clock = search.old.clock +ℤ d;
         } }
     ensures sound { IsSound search.new }
-    ensures queued { IsQueued search.new }
-    ensures standing { IsStanding search.new }
-    ensures planted { IsPlanted (state_of search.new) }
+    ensures event_times { IsQueued search.new }
+    ensures listed { HasTreeNodes search.new }
+    ensures all_rooted { IsPlanted (state_of search.new) }
     ensures step { steps.new ≡ steps.old + 1 }
 {
     raise(search, d, steps);

@@ -17,15 +17,15 @@ lists_before sets (Some k) count first is = subst (AreItemLists sets) (sym is) f
 count_within : (sets : List OddSet) (fault : Option ℕ) (count k : ℕ) → MatchOption fault (AreItemLists sets (length sets)) (IsFirstPlace (IsItemList sets) (length sets))
     → MatchOption fault (count ≡ length sets) (λ p. count ≡ p) → k < count → k < length sets
 count_within sets None count k lists is low = omega (arith, is, low)
-count_within sets (Some p) count k first is low = omega (arith, is, low, first.there)
+count_within sets (Some p) count k first is low = omega (arith, is, low, first.in_range)
 
 -- the first of them with items that have a member in common is the first without form
 pub overlap_first : (sets : List OddSet) (fault : Option ℕ) (count k : ℕ) → MatchOption fault (AreItemLists sets (length sets)) (IsFirstPlace (IsItemList sets) (length sets))
     → MatchOption fault (count ≡ length sets) (λ p. count ≡ p) → IsFirstPlace (IsApart sets) count k → IsFirstPlace (HasItemForm sets) (length sets) k
 overlap_first sets fault count k lists is overlap = record {
-  there = count_within sets fault count k lists is overlap.there;
+  in_range = count_within sets fault count k lists is overlap.in_range;
   lacks = λ form. overlap.lacks form.apart;
-  before = λ j low. form_of sets j (lists_before sets fault count lists is j (omega (arith, low, overlap.there))) (overlap.before j low);
+  before = λ j low. form_of sets j (lists_before sets fault count lists is j (omega (arith, low, overlap.in_range))) (overlap.before j low);
 }
 
 -- where none is, the first whose list of items does, if any
@@ -34,7 +34,7 @@ pub first_form : (sets : List OddSet) (fault : Option ℕ) (count : ℕ) → Mat
     → MatchOption fault (HaveItemForm sets) (IsFirstPlace (HasItemForm sets) (length sets))
 first_form sets None count lists is apart = λ j b. form_of sets j (lists j b) (apart j (omega (arith, is, b)))
 first_form sets (Some k) count first is apart = record {
-  there = first.there;
+  in_range = first.in_range;
   lacks = λ form. first.lacks (record { three = form.three; odd = form.odd; vertices = form.vertices; references = form.references; free = form.free });
   before = λ j b. form_of sets j (first.before j b) (apart j (omega (arith, is, b)));
 }

@@ -9,12 +9,12 @@ use Rattle.dual_check.specs.declared.forest.Place.{Place}
 use Rattle.dual_check.specs.declared.forest.Forest.{Forest}
 use Rattle.dual_check.specs.Forests.{IsForest, IsInnermost, spans, begin_of, end_of, named, no_place}
 use Rattle.dual_check.specs.Links.{IsGrown, dual_from, set_of, trees_to}
-use Rattle.dual_check.specs.Trees.{number_at, roots_to, AreEnds, IsSpread, AreOwn, AreJumps, AreAround}
+use Rattle.dual_check.specs.Trees.{number_at, roots_to, AreEnds, IsSpread, AreOwn, AreJumps, AreEnclosing}
 use Rattle.dual_check.proofs.TreeLemmas.{all_under, fits, root_next}
 use Rattle.dual_check.proofs.ListedLemmas.{IsAt, size_is}
-use Rattle.dual_check.proofs.SpreadLemmas.{Covers, laid_at, owner, next, around, parent_covers, root_at}
+use Rattle.dual_check.proofs.SpreadLemmas.{Covers, laid_at, owner, next, enclosing, parent_covers, root_at}
 use Rattle.dual_check.proofs.StretchLemmas.{spans_is, spans_from}
-use Rattle.dual_check.proofs.AroundLemmas.{from_inner, from_root}
+use Rattle.dual_check.proofs.EnclosingLemmas.{from_inner, from_root}
 
 -- all tables of a forest of the first n sets
 pub record AreTables (sets : List OddSet) (n : ℕ) (sizes : List ℕ) (f : Forest) : Type 0 where
@@ -23,7 +23,7 @@ pub record AreTables (sets : List OddSet) (n : ℕ) (sizes : List ℕ) (f : Fore
   pub long : length f.places.items ≡ roots_to n f.parents.items sizes n
   pub own : AreOwn sets n f.begins.items f.places.items
   pub jumps : AreJumps n f.parents.items 0 f.jumps.items
-  pub around : AreAround sets n f.parents.items f.around.items
+  pub enclosing : AreEnclosing sets n f.parents.items f.enclosing.items
 
 stretch_is : (ys : List Place) (b e : ℕ) (xs : List Place) → IsAt ys b xs → e ≡ b + length xs → e ≤ length ys → take (e - b) (drop b ys) ≡ xs
 stretch_is ys b e xs at end within =
@@ -78,17 +78,17 @@ module _ (sets : List OddSet) (n : ℕ) (sizes : List ℕ) (f : Forest) (t : Are
       to_spans (number_at f.parents.items i) q inner (parent_covers sets n f.parents.items sizes f.begins.items t.spread i q b inner (to_covers i q b s))
 
   -- the duals of the sets from i on that span q: of i, and of those from its parent on
-  summed : (q i : ℕ) → i < n → spans f i q ≡ true → total_at f.around.items i ≡ dual_from sets n f i q
-  summed q = all_under (λ i. spans f i q ≡ true → total_at f.around.items i ≡ dual_from sets n f i q) sets n f.parents.items t.spread.parents_are (λ i b up s.
+  summed : (q i : ℕ) → i < n → spans f i q ≡ true → total_at f.enclosing.items i ≡ dual_from sets n f i q
+  summed q = all_under (λ i. spans f i q ≡ true → total_at f.enclosing.items i ≡ dual_from sets n f i q) sets n f.parents.items t.spread.parents_are (λ i b up s.
       let p = number_at f.parents.items i in
       let g : ℕ → ℤ = λ k. (given_at sets k).dual in
       let others = int_sum_to (λ k. cond (nat_lt i k && spans f k q) (g k) (pos 0)) n in
       let first = from_first g (λ k. spans f k q) i n s in
       let here = ap (λ (x : Bool). cond x (g i) (pos 0)) (lt-ltb i n b) in
-      let each = t.around.each i b in
+      let each = t.enclosing.each i b in
       elim (cases_lt p n) [
         | inl inner ↦
-            let above = from_inner n f.parents.items f.around.items i inner ∙ up inner (parent_spans i q b inner s) in
+            let above = from_inner n f.parents.items f.enclosing.items i inner ∙ up inner (parent_spans i q b inner s) in
             let same : others ≡ dual_from sets n f p q = int_sum_to-same (λ k. cond (nat_lt i k && spans f k q) (g k) (pos 0)) (λ k. cond (nat_le p k && spans f k q) (g k) (pos 0)) n
             (λ k c. ap (λ (x : Bool). cond x (g k) (pos 0)) (same_tests (nat_lt i k && spans f k q) (nat_le p k && spans f k q)
             (λ h. let parts = and_parts _ _ h in and_from _ _ (le-leb p k (next_up i k q (ltb-true i k parts.0) c s parts.1).1) parts.1)
@@ -98,7 +98,7 @@ module _ (sets : List OddSet) (n : ℕ) (sizes : List ℕ) (f : Forest) (t : Are
             let none : others ≡ pos 0 = int_sum_to-same (λ k. cond (nat_lt i k && spans f k q) (g k) (pos 0)) (λ _. pos 0) n
             (λ k c. ap (λ (x : Bool). cond x (g k) (pos 0)) (false_from_ne_true (nat_lt i k && spans f k q) (λ h.
             let parts = and_parts _ _ h in let r = next_up i k q (ltb-true i k parts.0) c s parts.1 in absurd (omega (arith, r.0, root))))) ∙ int_sum_to-zero n in
-            omega (arith, ints, each, from_root n f.parents.items f.around.items i root, none, first, here)
+            omega (arith, ints, each, from_root n f.parents.items f.enclosing.items i root, none, first, here)
       ])
 
   named_by : (q : ℕ) → q < length f.places.items → IsInnermost n f q q (set_of f q)
@@ -108,7 +108,7 @@ module _ (sets : List OddSet) (n : ℕ) (sizes : List ℕ) (f : Forest) (t : Are
       let r = own root.0 t.own root.1 root.2 in
       let there : set_of f q < n = omega (arith, r.0, root.1) in
       let s = to_spans (set_of f q) q there r.1 in
-      record { there = there; first = s; second = s; least = λ j c h _. (own j t.own c (to_covers j q c h)).0 }
+      record { in_range = there; first = s; second = s; least = λ j c h _. (own j t.own c (to_covers j q c h)).0 }
 
   trees_are : (i : ℕ) → i ≤ n → trees_to f n i ≡ roots_to n f.parents.items sizes i
   trees_are i b = sum_to-same (λ k. cond (nat_lt (number_at f.parents.items k) n) 0 (end_of f k - begin_of f k))
@@ -119,14 +119,14 @@ module _ (sets : List OddSet) (n : ℕ) (sizes : List ℕ) (f : Forest) (t : Are
   grown = record {
     forest = forest_is;
     links = record {
-      few = t.spread.few;
+      size_limit = t.spread.size_limit;
       parents_are = t.spread.parents_are;
       jumps = t.jumps.size;
-      around = t.around.size;
+      enclosing = t.enclosing.size;
       named = named_by;
       parent = λ i b inner. record { order = let later = t.spread.parents_are.later i b inner in omega (arith, later); inside = inner; spans_all = λ q s. parent_spans i q b inner s };
       next = next_up;
-      surrounds = λ i j p q order b one two at. to_spans j p b (around sets n f.parents.items sizes f.begins.items t.spread j p q i (omega arith) order b
+      surrounds = λ i j p q order b one two at. to_spans j p b (enclosing sets n f.parents.items sizes f.begins.items t.spread j p q i (omega arith) order b
           (to_covers i q (omega arith) one) (to_covers j q b two) (to_covers i p (omega arith) at));
       placed = λ i b root.
           let at = t.spread.begins_are.roots i (omega arith) b root in

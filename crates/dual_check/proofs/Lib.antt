@@ -20,6 +20,6 @@ pub mod TreeLemmas
 pub mod ListedLemmas
 pub mod SpreadLemmas
 pub mod StepLemmas
-pub mod AroundLemmas
+pub mod EnclosingLemmas
 pub mod GrownLemmas
 pub mod WayLemmas

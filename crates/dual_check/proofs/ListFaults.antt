@@ -63,13 +63,13 @@ pub lacks_items : (sets : List OddSet) (k : ℕ) (s : OddSet) → AreItemLists s
     IsFirstPlace (IsItemList sets) (length sets) k
 lacks_items sets k s so below is lacks =
     let here : s ≡ given_at sets k = get_or_read sets k s below is no_given in
-    record { there = below; lacks = λ list. lacks (subst HasItems (sym here) (list.three, list.odd, list.vertices, list.references)); before = so }
+    record { in_range = below; lacks = λ list. lacks (subst HasItems (sym here) (list.three, list.odd, list.vertices, list.references)); before = so }
 
 -- or refers to what is marked
 pub lacks_free : (sets : List OddSet) (marks : List Bool) (k : ℕ) → AreItemLists sets k → MarksReferred sets marks k → k < length sets
     → ¬ ((r : ℕ) → holds (given_at sets k).references r ≡ true → is_marked marks r ≡ false) → IsFirstPlace (IsItemList sets) (length sets) k
 lacks_free sets marks k so are below lacks = record {
-  there = below;
+  in_range = below;
   lacks = λ list. lacks (λ r here. false_from_ne_true (is_marked marks r) (λ marked.
       let other = are.only r marked in false≢true (sym (list.free other.0 r other.1 other.2) ∙ here)));
   before = so;

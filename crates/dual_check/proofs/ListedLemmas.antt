@@ -58,7 +58,7 @@ module _ (sets : List OddSet) (n : ℕ) (parents sizes begins : List ℕ) (sp : 
   size_is = all_before (λ j. j < n → number_at sizes j ≡ length (named sets j)) (λ j known b.
       let refs = (given_at sets j).references in
       let whole = ap (λ (l : List ℕ). length (flat_map (inner_of sets) l)) (take_all (length refs) refs (omega arith)) in
-      let is = ap length (named-is sets j sp.earlier (omega (arith, b, sp.few))) ∙ length-append (map (place_of j) (given_at sets j).vertices) (flat_map (inner_of sets) refs) in
+      let is = ap length (named-is sets j sp.earlier (omega (arith, b, sp.size_limit))) ∙ length-append (map (place_of j) (given_at sets j).vertices) (flat_map (inner_of sets) refs) in
       omega (arith, sp.sizes_are.each j b, before_is j (length refs) b (λ k e. known k e (omega arith)) (omega arith), whole, is, length-map (given_at sets j).vertices (place_of j)))
 
   -- a vertex of its own stands at the same place in what a set names
@@ -67,7 +67,7 @@ module _ (sets : List OddSet) (n : ℕ) (parents sizes begins : List ℕ) (sp : 
       let vs = (given_at sets j).vertices in
       let own = map (place_of j) vs in
       let within : t < length own = omega (arith, length-map vs (place_of j)) in
-      ap (λ (l : List Place). get_or l t no_place) (named-is sets j sp.earlier (omega (arith, b, sp.few)))
+      ap (λ (l : List Place). get_or l t no_place) (named-is sets j sp.earlier (omega (arith, b, sp.size_limit)))
       ∙ get_or_append_left own (flat_map (inner_of sets) (given_at sets j).references) no_place t within ∙ get_or_default own t no_place (place_of j 0) within
       ∙ get_or-map (place_of j) vs t 0
 
@@ -81,5 +81,5 @@ module _ (sets : List OddSet) (n : ℕ) (parents sizes begins : List ℕ) (sp : 
       let m = length (flat_map (inner_of sets) (take a refs)) in
       let place : (length vs + before sizes refs a) + i ≡ length own + (m + i)
       = omega (arith, length-map vs (place_of j), before_is j a b (λ k e. size_is k (omega arith)) (omega arith)) in
-      ap₂ (λ (l : List Place) p. get_or l p no_place) (named-is sets j sp.earlier (omega (arith, b, sp.few))) place
+      ap₂ (λ (l : List Place) p. get_or l p no_place) (named-is sets j sp.earlier (omega (arith, b, sp.size_limit))) place
       ∙ get_or-append-add own (flat_map (inner_of sets) refs) (m + i) no_place ∙ flat_at (inner_of sets) refs a c i e

@@ -24,7 +24,7 @@ pub double_first : (sets : List OddSet) (n : ℕ) (f : Forest) (k p q : ℕ) →
 double_first sets n f k p q are most lists forest b double none =
     let before = singles-apart k sets n f are most lists forest (omega (arith, b)) none in
     record {
-      there = b;
+      in_range = b;
       lacks = λ apart.
           let two = twice sets n f forest k b p q double in
           let one = apart (vertex_at f p) in

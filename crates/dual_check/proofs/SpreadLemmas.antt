@@ -173,8 +173,8 @@ module _ (sets : List OddSet) (n : ℕ) (parents sizes begins : List ℕ) (sp : 
       (omega (arith, r.0, in_i.0), omega (arith, r.1, in_i.1))
 
   -- .. and the second covers what the first does
-  pub around : (j p q i : ℕ) → i < n → i ≤ j → j < n → Covers sizes begins i q → Covers sizes begins j q → Covers sizes begins i p → Covers sizes begins j p
-  around j p q = all_under
+  pub enclosing : (j p q i : ℕ) → i < n → i ≤ j → j < n → Covers sizes begins i q → Covers sizes begins j q → Covers sizes begins i p → Covers sizes begins j p
+  enclosing j p q = all_under
       (λ i. i ≤ j → j < n → Covers sizes begins i q → Covers sizes begins j q → Covers sizes begins i p → Covers sizes begins j p) sets n parents sp.parents_are
       (λ i c up order b in_i in_j at_i. elim (cases_eq i j) [
         | inl same ↦ subst (λ z. Covers sizes begins z p) same at_i

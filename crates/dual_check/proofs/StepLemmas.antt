@@ -144,7 +144,7 @@ begun_root sets n parents sizes j end old new b root at is so =
     let here : number_at new j ≡ end = ap (λ (l : List ℕ). number_at l j) is ∙ get_or-set_same old j end 0 (omega (arith, begins.size)) in
     record {
       later = record {
-        few = so.few;
+        size_limit = so.size_limit;
         earlier = so.earlier;
         parents_are = so.parents_are;
         sizes_are = so.sizes_are;
@@ -190,9 +190,9 @@ begins_next sets n parents sizes j old new b so size inner others =
     let refs = (given_at sets j).references in
     let before_it = so.later.begins_are in
     let kept : (k : ℕ) → j ≤ k → number_at new k ≡ number_at old k = λ k c. others k (false_from_ne_true (holds refs (k + 1)) (λ h.
-    let r = holds_all (λ r. (1 ≤ r) × (r ≤ j)) refs (k + 1) (so.later.earlier j (omega (arith, so.later.few))) h in absurd (omega (arith, r.1, c)))) in
+    let r = holds_all (λ r. (1 ≤ r) × (r ≤ j)) refs (k + 1) (so.later.earlier j (omega (arith, so.later.size_limit))) h in absurd (omega (arith, r.1, c)))) in
     record {
-      few = so.later.few;
+      size_limit = so.later.size_limit;
       earlier = so.later.earlier;
       parents_are = so.later.parents_are;
       sizes_are = so.later.sizes_are;

@@ -68,7 +68,7 @@ module _ (sets : List OddSet) (n : ℕ) (parents sizes : List ℕ) (i : ℕ) (be
   -- what a set refers to is an earlier set
   pub reference_in : (j a : ℕ) → j < n → a < length (given_at sets j).references
       → (1 ≤ number_at (given_at sets j).references a) × (number_at (given_at sets j).references a ≤ j)
-  reference_in j a b c = sp.earlier j (omega (arith, b, sp.few)) a 0 c
+  reference_in j a b c = sp.earlier j (omega (arith, b, sp.size_limit)) a 0 c
 
   -- the place of a set among those that its parent refers to
   pub place_in : (k : ℕ) → k < n → number_at parents k < n

@@ -53,7 +53,7 @@ pub record IsClimb (n : ℕ) (f : Forest) (p q x : ℕ) : Type 0 where
 pub climb_starts : (sets : List OddSet) (n : ℕ) (f : Forest) (p q : ℕ) → IsGrown sets n f → q < length f.places.items → IsClimb n f p q (set_of f q)
 climb_starts sets n f p q g b =
     let r = g.links.named q b in
-    record { inside = r.there; here = r.first; past = λ j low s. let e = r.least j (let t = r.there in omega (arith, t, low)) s s in absurd (omega (arith, e, low)) }
+    record { inside = r.in_range; here = r.first; past = λ j low s. let e = r.least j (let t = r.in_range in omega (arith, t, low)) s s in absurd (omega (arith, e, low)) }
 
 pub climb_goes : (n : ℕ) (f : Forest) (p q x y : ℕ) → IsClimb n f p q x → p < begin_of f x → IsWay n f p x y → IsClimb n f p q y
 climb_goes n f p q x y so late way = record {
@@ -70,7 +70,7 @@ climb_goes n f p q x y so late way = record {
 
 pub climb_ends : (n : ℕ) (f : Forest) (p q x : ℕ) → IsClimb n f p q x → p ≤ q → begin_of f x ≤ p → IsInnermost n f p q x
 climb_ends n f p q x so order low = record {
-  there = so.inside;
+  in_range = so.inside;
   first = spans_before f x p q order low so.here;
   second = so.here;
   least = λ j b one two. elim (cases_lt j x) [
@@ -96,9 +96,9 @@ shared_none sets n f p q none = sym (int_sum_to-same (λ j. cond (spans f j p &&
     let parts = and_parts (spans f j p) (spans f j q) h in false≢true (sym (none j b parts.0) ∙ parts.1)))) ∙ int_sum_to-zero n)
 
 pub shared_some : (sets : List OddSet) (n : ℕ) (f : Forest) (p q x : ℕ) → IsGrown sets n f → p ≤ q → IsInnermost n f p q x
-    → total_at f.around.items x ≡ shared_dual sets n f p q
+    → total_at f.enclosing.items x ≡ shared_dual sets n f p q
 shared_some sets n f p q x g order i =
-    g.links.summed x q i.there i.second
+    g.links.summed x q i.in_range i.second
     ∙ int_sum_to-same (λ j. cond (nat_le x j && spans f j q) (given_at sets j).dual (pos 0)) (λ j. cond (spans f j p && spans f j q) (given_at sets j).dual (pos 0)) n
     (λ j b. ap (λ (t : Bool). cond t (given_at sets j).dual (pos 0)) (same_tests (nat_le x j && spans f j q) (spans f j p && spans f j q) (λ h.
     let parts = and_parts (nat_le x j) (spans f j q) h in

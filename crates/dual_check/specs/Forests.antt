@@ -37,7 +37,7 @@ IsApart sets j = (v : ℕ) → items_with sets j v ≤ 1
 
 -- the first of n places that lacks something
 pub record IsFirstPlace (Has : ℕ → Type 0) (n : ℕ) (k : ℕ) : Type 0 where
-  pub there : k < n
+  pub in_range : k < n
   pub lacks : ¬ Has k
   pub before : (j : ℕ) → j < k → Has j
 
@@ -88,7 +88,7 @@ pub record IsForest (sets : List OddSet) (n : ℕ) (f : Forest) : Type 0 where
 
 -- the innermost of the first n sets that spans both positions, which has the least place of them
 pub record IsInnermost (n : ℕ) (f : Forest) (p q x : ℕ) : Type 0 where
-  pub there : x < n
+  pub in_range : x < n
   pub first : spans f x p ≡ true
   pub second : spans f x q ≡ true
   pub least : (j : ℕ) → j < n → spans f j p ≡ true → spans f j q ≡ true → x ≤ j

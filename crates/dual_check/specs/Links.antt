@@ -38,10 +38,10 @@ passed f n i = length f.places.items - trees_to f n i
 -- later one surrounds the other, and the parent is the first that does. The trees follow one
 -- another, that of the last set first, and each is the stretch of the set that none refers to.
 pub record HasLinks (sets : List OddSet) (n : ℕ) (f : Forest) : Type 0 where
-  pub few : n ≤ length sets
+  pub size_limit : n ≤ length sets
   pub parents_are : AreParents sets n f.parents.items
   pub jumps : length f.jumps.items ≡ n
-  pub around : length f.around.items ≡ n
+  pub enclosing : length f.enclosing.items ≡ n
   pub named : (q : ℕ) → q < length f.places.items → IsInnermost n f q q (set_of f q)
   pub surrounds : (i j p q : ℕ) → i ≤ j → j < n → spans f i q ≡ true → spans f j q ≡ true
       → spans f i p ≡ true → spans f j p ≡ true
@@ -54,7 +54,7 @@ pub record HasLinks (sets : List OddSet) (n : ℕ) (f : Forest) : Type 0 where
   pub none_passed : passed f n n ≡ 0
   pub jump : (i : ℕ) → i < n → Surrounds n f i (number_at f.jumps.items i)
   pub summed : (i q : ℕ) → i < n → spans f i q ≡ true
-      → total_at f.around.items i ≡ dual_from sets n f i q
+      → total_at f.enclosing.items i ≡ dual_from sets n f i q
 
 -- a forest of the first n sets whose links are right
 pub record IsGrown (sets : List OddSet) (n : ℕ) (f : Forest) : Type 0 where

@@ -54,7 +54,7 @@ pub record AreBegins (sets : List OddSet) (n : ℕ) (parents sizes : List ℕ) (
 -- how the trees are spread out, but for those of the first i sets
 pub record IsSpreadFrom (sets : List OddSet) (n : ℕ) (parents sizes : List ℕ) (i : ℕ)
     (begins : List ℕ) : Type 0 where
-  pub few : n ≤ length sets
+  pub size_limit : n ≤ length sets
   pub earlier : AreEarlier sets
   pub parents_are : AreParents sets n parents
   pub sizes_are : AreSizes sets n sizes
@@ -81,7 +81,7 @@ IsKept n parents t = (k : ℕ) → k < n → number_at parents k < n → t k ≡
     → t (number_at parents k) ≡ true
 
 -- y is x or a set around it
-pub record IsAround (n : ℕ) (parents : List ℕ) (x y : ℕ) : Type 0 where
+pub record IsEnclosing (n : ℕ) (parents : List ℕ) (x y : ℕ) : Type 0 where
   pub order : x ≤ y
   pub inside : y < n
   pub kept : (t : ℕ → Bool) → IsKept n parents t → t x ≡ true → t y ≡ true
@@ -89,16 +89,16 @@ pub record IsAround (n : ℕ) (parents : List ℕ) (x y : ℕ) : Type 0 where
 -- for each set from place i on one around it
 pub record AreJumps (n : ℕ) (parents : List ℕ) (i : ℕ) (jumps : List ℕ) : Type 0 where
   pub size : length jumps ≡ n
-  pub each : (x : ℕ) → i ≤ x → x < n → IsAround n parents x (number_at jumps x)
+  pub each : (x : ℕ) → i ≤ x → x < n → IsEnclosing n parents x (number_at jumps x)
 
 -- what the set around gives
 abbrev pub from_parent : ℕ → List ℕ → List ℤ → ℕ → ℤ
-from_parent n parents around k =
-    if nat_lt (number_at parents k) n then total_at around (number_at parents k) else pos 0
+from_parent n parents enclosing k =
+    if nat_lt (number_at parents k) n then total_at enclosing (number_at parents k) else pos 0
 
 -- for each set its dual and those of all sets around it
-pub record AreAround (sets : List OddSet) (n : ℕ) (parents : List ℕ)
-    (around : List ℤ) : Type 0 where
-  pub size : length around ≡ n
+pub record AreEnclosing (sets : List OddSet) (n : ℕ) (parents : List ℕ)
+    (enclosing : List ℤ) : Type 0 where
+  pub size : length enclosing ≡ n
   pub each : (k : ℕ) → k < n
-      → total_at around k ≡ ((given_at sets k).dual +ℤ from_parent n parents around k)
+      → total_at enclosing k ≡ ((given_at sets k).dual +ℤ from_parent n parents enclosing k)

@@ -1,6 +1,6 @@
 ghost use Rattle.std.specs.Prelude.{◌≡◌, ℕ, ◌+◌, ◌<◌, ◌≤◌, length, All, IfOk};
 ghost use Rattle.graph_theory.specs.Duals.{IsNumber};
-ghost use Rattle.dual_check.specs.Trees.{AreParents, AreJumps, AreAround, IsAround};
+ghost use Rattle.dual_check.specs.Trees.{AreParents, AreJumps, AreEnclosing, IsEnclosing};
 ghost use Rattle.dual_check.specs.Trees.{number_at, from_parent};
 
 use graph_theory::OddSet;
@@ -22,8 +22,8 @@ fn jump_from(
     requires lengths { length lengths.now ≡ count }
     requires later { number_at parents.now set < count → set < number_at parents.now set }
     requires known { (x : ℕ) → set < x → x < count
-        → IsAround count parents.now x (number_at jumps.now x) }
-    ensures { IsAround count parents.now set result.0 }
+        → IsEnclosing count parents.now x (number_at jumps.now x) }
+    ensures { IsEnclosing count parents.now set result.0 }
 {
     let parent = parents[set];
     if parent >= count {
@@ -60,20 +60,20 @@ pub(crate) fn jumps_of(
 }
 
 /// What the set around gives: 0 if there is none.
-fn given_around(parents: &[usize], around: &[i128], count: usize, set: usize) -> i128
+fn given_enclosing(parents: &[usize], enclosing: &[i128], count: usize, set: usize) -> i128
     requires set { set < count }
     requires parents { length parents.now ≡ count }
-    requires around { length around.now ≡ count }
-    ensures { result ≡ from_parent count parents.now around.now set }
+    requires enclosing { length enclosing.now ≡ count }
+    ensures { result ≡ from_parent count parents.now enclosing.now set }
 {
     if parents[set] >= count {
         return 0;
     }
-    around[parents[set]]
+    enclosing[parents[set]]
 }
 
 /// For each of the first `count` sets its dual and those of all sets around it, added up.
-pub(crate) fn around_of(
+pub(crate) fn enclosing_of(
     alloc: Global,
     sets: &[OddSet],
     count: usize,
@@ -82,13 +82,13 @@ pub(crate) fn around_of(
     requires count { count ≤ length sets.now }
     requires parents { AreParents sets.now count parents.now }
     requires numbers { All (λ s. IsNumber s.dual) sets.now }
-    ensures { IfOk result (λ around. AreAround sets.now count parents.now around.items) }
+    ensures { IfOk result (λ enclosing. AreEnclosing sets.now count parents.now enclosing.items) }
 {
-    let mut around = vec![in alloc; 0i128; count]?;
+    let mut enclosing = vec![in alloc; 0i128; count]?;
     for k in 0..count {
         let set = count - 1 - k;
-        let given = given_around(parents, &around, count, set);
-        around[set] = i128::from(sets[set].dual) + given;
+        let given = given_enclosing(parents, &enclosing, count, set);
+        enclosing[set] = i128::from(sets[set].dual) + given;
     }
-    Ok(around)
+    Ok(enclosing)
 }

@@ -27,8 +27,8 @@ use weighted_graph::{Graph, Incidence};
 /// Adds the dual at the total of a place where a vertex has no mark.
 fn add_unmarked(totals: &mut [i128], marks: &[bool], vertex: VertexId, place: usize, dual: i64)
     requires vertex { vertex < length marks.now }
-    requires there { place < length totals.old }
-    requires small { IsWithin 3 (total_at totals.old place) }
+    requires in_range { place < length totals.old }
+    requires value_limit { IsWithin 3 (total_at totals.old place) }
     requires dual { IsNumber dual }
     ensures size { length totals.new ≡ length totals.old }
     ensures exact { (p : ℕ) → total_at totals.new p ≡ (total_at totals.old p
@@ -52,7 +52,7 @@ fn add_from(
     requires numbers { numbers.now ≡ edges_around graph.now vertex }
     requires marks { length marks.now ≡ graph.now.vertices + 1 }
     requires size { length totals.old ≡ length graph.now.edges + 1 }
-    requires small { (e : ℕ) → IsEdgeNumber graph.now e → IsWithin 3 (total_at totals.old e) }
+    requires value_limit { (e : ℕ) → IsEdgeNumber graph.now e → IsWithin 3 (total_at totals.old e) }
     requires dual { IsNumber dual }
     ensures { AddsAt graph.now vertex (given_out graph.now marks.now vertex dual) totals.old
         totals.new }
@@ -78,7 +78,7 @@ fn add_set(
     requires marks { length marks.old ≡ graph.now.vertices + 1 }
     requires none { (v : ℕ) → is_marked marks.old v ≡ false }
     requires size { length totals.old ≡ length graph.now.edges + 1 }
-    requires small { (e : ℕ) → IsEdgeNumber graph.now e → IsWithin 1 (total_at totals.old e) }
+    requires value_limit { (e : ℕ) → IsEdgeNumber graph.now e → IsWithin 1 (total_at totals.old e) }
     ensures none { (v : ℕ) → is_marked marks.new v ≡ false }
     ensures adds { AddsSet graph.now set.now totals.old totals.new }
 {
@@ -136,7 +136,7 @@ fn crossed_alone(
     alone: &[bool],
 ) -> Result<Vec<i128>, OutOfMemory>
     requires index { IsIndex graph.now incidence.now }
-    requires plain { HasNoLoop graph.now }
+    requires loopless { HasNoLoop graph.now }
     requires numbers { All (λ s. IsNumber s.dual) sets.now }
     requires within { All (IsGivenWithin graph.now.vertices) sets.now }
     requires forms { All (λ s. IsStrictlyIncreasing s.vertices) sets.now }
@@ -172,14 +172,14 @@ fn add_trees(
     totals: &mut [i128],
 ) -> Result<(), OutOfMemory>
     requires index { IsIndex graph.now incidence.now }
-    requires plain { HasNoLoop graph.now }
+    requires loopless { HasNoLoop graph.now }
     requires numbers { All (λ s. IsNumber s.dual) sets.now }
     requires within { All (IsGivenWithin graph.now.vertices) sets.now }
     requires earlier { AreEarlier sets.now }
     requires forms { HaveItemForm sets.now }
     requires alone { AreAlone sets.now alone.now }
     requires size { length totals.old ≡ length graph.now.edges + 1 }
-    requires small { (e : ℕ) → IsEdgeNumber graph.now e → IsWithin 1 (total_at totals.old e) }
+    requires value_limit { (e : ℕ) → IsEdgeNumber graph.now e → IsWithin 1 (total_at totals.old e) }
     ensures { OnOk result (AddsNested graph.now sets.now alone.now totals.old totals.new) }
 {
     let forest = Forest::of(alloc, sets, sets.len())?;
@@ -198,7 +198,7 @@ fn crossed_in(
     requires within { All (IsGivenWithin graph.now.vertices) sets.now }
     requires earlier { AreEarlier sets.now }
     requires forms { HaveItemForm sets.now }
-    requires plain { HasNoLoop graph.now }
+    requires loopless { HasNoLoop graph.now }
     ensures totals { IfOk result (λ totals. AreCrossed graph.now sets.now totals.items) }
 {
     let flags = alone(alloc, sets)?;
@@ -220,7 +220,7 @@ pub(crate) fn crossed_all(
     requires within { All (IsGivenWithin graph.now.vertices) sets.now }
     requires earlier { AreEarlier sets.now }
     requires forms { HaveItemForm sets.now }
-    requires plain { HasNoLoop graph.now }
+    requires loopless { HasNoLoop graph.now }
     ensures totals { IfOk result (λ totals. AreCrossed graph.now sets.now totals.items) }
 {
     let incidence = graph.index()?;

@@ -41,7 +41,7 @@ pub fn bound(alloc: Global, graph: &Graph, y: &[i64], sets: &[OddSet]) -> Result
     requires set_numbers { All (λ s. IsNumber s.dual) sets.now }
     requires sets_within { All (IsGivenWithin graph.now.vertices) sets.now }
     requires earlier { AreEarlier sets.now }
-    requires plain { HasNoLoop graph.now }
+    requires loopless { HasNoLoop graph.now }
 
     // The dual value, or the first set or edge that breaks a rule.
     ensures value { IfOk result

@@ -8,7 +8,7 @@ ghost use Rattle.dual_check.specs.Forests.{end_of, vertex_at};
 ghost use Rattle.dual_check.specs.Links.{IsGrown, MayBeWay};
 ghost use Rattle.dual_check.specs.Trees.{number_at};
 
-use crate::climbing::{around_of, jumps_of};
+use crate::climbing::{enclosing_of, jumps_of};
 use crate::named::places_of;
 use crate::parents::parents_of;
 use crate::stretches::{begins_of, ends_of, sizes_of, total_of};
@@ -35,7 +35,7 @@ pub(crate) struct Forest {
     /// For each set one that lies around it, or itself where none does, some way up.
     jumps: Vec<usize>,
     /// For each set its dual and those of all sets around it, added up.
-    around: Vec<i128>,
+    enclosing: Vec<i128>,
 }
 
 impl Forest {
@@ -65,14 +65,14 @@ impl Forest {
             total,
         )?;
         let jumps = jumps_of(alloc, sets, count, parent_list)?;
-        let around = around_of(alloc, sets, count, parent_list)?;
+        let enclosing = enclosing_of(alloc, sets, count, parent_list)?;
         Ok(Forest {
             begins,
             ends,
             places,
             parents,
             jumps,
-            around,
+            enclosing,
         })
     }
 
@@ -138,7 +138,7 @@ impl Forest {
     ) -> Option<usize>
         requires grown { IsGrown sets.now count self.now }
         requires order { p ≤ q }
-        requires there { q < length self.now.places.items }
+        requires in_range { q < length self.now.places.items }
         ensures { MayBeInnermost count self.now p q result }
     {
         let mut set = self.places[q].set;
@@ -156,14 +156,14 @@ impl Forest {
     pub(crate) fn shared(&self, sets: &[OddSet], count: usize, p: usize, q: usize) -> i128
         requires grown { IsGrown sets.now count self.now }
         requires order { p ≤ q }
-        requires there { q < length self.now.places.items }
+        requires in_range { q < length self.now.places.items }
         requires numbers { All (λ s. IsNumber s.dual) sets.now }
         ensures exact { result ≡ shared_dual sets.now count self.now p q }
-        ensures small { IsWithin 1 result }
+        ensures value_limit { IsWithin 1 result }
     {
         let Some(set) = self.innermost(sets, count, p, q) else {
             return 0;
         };
-        self.around[set]
+        self.enclosing[set]
     }
 }

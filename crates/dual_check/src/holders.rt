@@ -1,4 +1,5 @@
-ghost use Rattle.std.specs.Prelude.{◌≡◌, ℕ, ◌-◌, ◌<◌, ◌≤◌, ◌^◌, ◌∷◌, ◌++◌, [], true, pos, length, min};
+ghost use Rattle.std.specs.Prelude.{◌≡◌, ℕ, ◌-◌, ◌<◌, ◌≤◌, ◌^◌, ◌∷◌, ◌++◌, [], true, pos, length};
+ghost use Rattle.std.specs.Prelude.{min};
 ghost use Rattle.std.specs.Prelude.{All, OnOk, IfOk, if◌then◌else◌, ℤ};
 ghost use Rattle.std.specs.List.Sorted.{IsStrictlyIncreasing};
 ghost use Rattle.graph_theory.specs.Sums.{int_sum_to, sum_to};

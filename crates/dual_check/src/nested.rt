@@ -84,7 +84,7 @@ fn shared_at(sets: &[OddSet], forest: &Forest, p: usize, q: usize) -> i128
     requires first { p < length forest.now.places.items }
     requires second { q < length forest.now.places.items }
     ensures exact { result ≡ shared_dual sets.now (length sets.now) forest.now p q }
-    ensures small { IsWithin 1 result }
+    ensures value_limit { IsWithin 1 result }
 {
     if p <= q {
         return forest.shared(sets, sets.len(), p, q);
@@ -107,9 +107,9 @@ fn unshared(
     requires position { q < length forest.now.places.items }
     requires stand { stand ≤ length forest.now.places.items }
     requires whole { whole ≡ shared_dual sets.now (length sets.now) forest.now q q }
-    requires small { IsWithin 1 whole }
+    requires value_limit { IsWithin 1 whole }
     ensures exact { result ≡ unshared_dual sets.now forest.now begin q stand }
-    ensures small { IsWithin 2 result }
+    ensures value_limit { IsWithin 2 result }
 {
     if begin < stand {
         return whole - shared_at(sets, forest, stand - 1, q);
@@ -137,7 +137,7 @@ fn add_at(
     requires table { length stands.now ≡ graph.now.vertices + 1 }
     requires stands { (w : ℕ) → stand_of stands.now w ≤ length forest.now.places.items }
     requires size { length totals.old ≡ length graph.now.edges + 1 }
-    requires small { (e : ℕ) → IsEdgeNumber graph.now e → IsWithin 3 (total_at totals.old e) }
+    requires value_limit { (e : ℕ) → IsEdgeNumber graph.now e → IsWithin 3 (total_at totals.old e) }
     ensures { AddsAt graph.now vertex
         (apart_at graph.now sets.now forest.now stands.now begin q vertex) totals.old totals.new }
 {
@@ -162,14 +162,14 @@ fn add_tree(
     totals: &mut [i128],
 )
     requires index { IsIndex graph.now incidence.now }
-    requires plain { HasNoLoop graph.now }
-    requires ready { IsReady graph.now.vertices sets.now alone.now forest.now }
-    requires there { root < length sets.now }
+    requires loopless { HasNoLoop graph.now }
+    requires well_formed { IsReady graph.now.vertices sets.now alone.now forest.now }
+    requires in_range { root < length sets.now }
     requires table { length stands.old ≡ graph.now.vertices + 1 }
     requires early { (w : ℕ) → stand_of stands.old w
         ≤ passed forest.now (length sets.now) (root + 1) }
     requires size { length totals.old ≡ length graph.now.edges + 1 }
-    requires small { (e : ℕ) → IsEdgeNumber graph.now e → IsWithin 1 (total_at totals.old e
+    requires value_limit { (e : ℕ) → IsEdgeNumber graph.now e → IsWithin 1 (total_at totals.old e
         -ℤ reached sets.now alone.now forest.now (edge_of graph.now e)
         (passed forest.now (length sets.now) (root + 1))) }
     ensures table { length stands.new ≡ length stands.old }
@@ -216,10 +216,10 @@ pub(crate) fn add_nested(
     totals: &mut [i128],
 ) -> Result<(), OutOfMemory>
     requires index { IsIndex graph.now incidence.now }
-    requires plain { HasNoLoop graph.now }
-    requires ready { IsReady graph.now.vertices sets.now alone.now forest.now }
+    requires loopless { HasNoLoop graph.now }
+    requires well_formed { IsReady graph.now.vertices sets.now alone.now forest.now }
     requires size { length totals.old ≡ length graph.now.edges + 1 }
-    requires small { (e : ℕ) → IsEdgeNumber graph.now e → IsWithin 1 (total_at totals.old e) }
+    requires value_limit { (e : ℕ) → IsEdgeNumber graph.now e → IsWithin 1 (total_at totals.old e) }
     ensures { OnOk result (AddsNested graph.now sets.now alone.now totals.old totals.new) }
 {
     let mut stands = vec![in alloc; 0usize; graph.vertices() as usize + 1]?;

@@ -22,7 +22,7 @@ fn lesser_place(
 ) -> usize
     requires grown { IsGrown sets.now count forest.now }
     requires order { before ≤ position }
-    requires there { position < length forest.now.places.items }
+    requires in_range { position < length forest.now.places.items }
     ensures most { result ≤ least }
     ensures place { result ≢ least → result < count }
     ensures stood { result ≢ least → 1 ≤ before }

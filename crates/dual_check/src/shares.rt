@@ -27,12 +27,12 @@ struct Shares {
 impl Shares {
     /// The duals of the sets that don't hold a vertex.
     fn without(&self, vertex: VertexId) -> i128
-        requires there { vertex < length self.now.with_vertex.items }
+        requires in_range { vertex < length self.now.with_vertex.items }
         requires whole { IsWithin 1 self.now.whole }
         requires with_vertex { IsWithin 1 (total_at self.now.with_vertex.items vertex) }
         ensures exact { result
             ≡ self.now.whole -ℤ total_at self.now.with_vertex.items vertex }
-        ensures small { IsWithin 2 result }
+        ensures value_limit { IsWithin 2 result }
     {
         self.whole - self.with_vertex[vertex.number() as usize]
     }
@@ -42,7 +42,7 @@ impl Shares {
 fn share(totals: &mut [i128], members: &[VertexId], dual: i64)
     requires in_range { All (λ m. m < length totals.old) members.now }
     requires ascending { IsStrictlyIncreasing members.now }
-    requires small { (v : ℕ) → IsWithin 1 (total_at totals.old v) }
+    requires value_limit { (v : ℕ) → IsWithin 1 (total_at totals.old v) }
     requires dual { IsNumber dual }
     ensures { (v : ℕ) → total_at totals.new v
         ≡ (total_at totals.old v +ℤ (if holds members.now v then dual else pos 0)) }
@@ -88,7 +88,7 @@ fn add_unshared(
     requires whole { IsWithin 1 shares.now.whole }
     requires with_vertex { (v : ℕ) → IsWithin 1 (total_at shares.now.with_vertex.items v) }
     requires size { length totals.old ≡ length graph.now.edges + 1 }
-    requires small { (e : ℕ) → IsEdgeNumber graph.now e → IsWithin 3 (total_at totals.old e) }
+    requires value_limit { (e : ℕ) → IsEdgeNumber graph.now e → IsWithin 3 (total_at totals.old e) }
     ensures { AddsAt graph.now vertex (unshared_at graph.now shares.now vertex) totals.old
         totals.new }
 {
@@ -110,13 +110,13 @@ pub(crate) fn add_taken(
     totals: &mut [i128],
 ) -> Result<(), OutOfMemory>
     requires index { IsIndex graph.now incidence.now }
-    requires plain { HasNoLoop graph.now }
+    requires loopless { HasNoLoop graph.now }
     requires numbers { All (λ s. IsNumber s.dual) sets.now }
     requires within { All (IsGivenWithin graph.now.vertices) sets.now }
     requires forms { All (λ s. IsStrictlyIncreasing s.vertices) sets.now }
     requires holders { IsHolders graph.now.vertices sets.now taken.now holders.now }
     requires size { length totals.old ≡ length graph.now.edges + 1 }
-    requires small { (e : ℕ) → IsEdgeNumber graph.now e → IsWithin 1 (total_at totals.old e) }
+    requires value_limit { (e : ℕ) → IsEdgeNumber graph.now e → IsWithin 1 (total_at totals.old e) }
     ensures { OnOk result (AddsCrossed graph.now sets.now
         (taken_dual sets.now taken.now) totals.old totals.new) }
 {

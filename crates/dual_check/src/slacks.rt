@@ -23,7 +23,7 @@ fn set_dual(y: &[i64], vertex: VertexId) -> i64
 fn slack_of(y: &[i64], edge: &Edge, crossed: i128) -> i128
     requires ends { IsEdgeWithin (length y.now) edge.now }
     requires y_numbers { All IsNumber y.now }
-    requires small { IsWithin 3 crossed }
+    requires value_limit { IsWithin 3 crossed }
     ensures { result
         ≡ pos 2 *ℤ edge.now.w -ℤ dual_of y.now edge.now.u -ℤ dual_of y.now edge.now.v -ℤ crossed }
 {

@@ -6,7 +6,7 @@ use Rattle.std.specs.Prelude.{slice_index, map, Bool, ◌&&◌, if◌then◌else
 use Rattle.graph_theory.specs.declared.edge.Edge.{Edge}
 use Rattle.graph_theory.specs.Sums.{sum_to}
 use Rattle.graph_theory.specs.Graph.{Multigraph, ends_at}
-use Rattle.outer_sets.specs.Decomposition.{unweighted}
+use Rattle.gallai_theory.specs.Decomposition.{unweighted}
 use Rattle.mb_problem.specs.declared.answer.Parity.TheVariants.{Values}
 use Rattle.mb_problem.specs.declared.gadget.GadgetForm.{GadgetForm}
 use Rattle.mb_problem.specs.declared.gadget.GadgetForm.TheVariants.{Itself, Doubled, Copies, Capped}

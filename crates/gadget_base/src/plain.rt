@@ -4,7 +4,7 @@ ghost use Rattle.graph_theory.specs.Graph.{IsEdgeNumber};
 ghost use Rattle.graph_theory.specs.Walk.{walk_weight};
 ghost use Rattle.graph_theory.specs.Graph.{HasNoLoop};
 ghost use Rattle.graph_theory.specs.Limits.{HasSize};
-ghost use Rattle.outer_sets.specs.Decomposition.{unweighted};
+ghost use Rattle.gallai_theory.specs.Decomposition.{unweighted};
 ghost use Rattle.mb_problem.specs.declared.kind.Kind.TheVariants.{Perfect, Gallai};
 ghost use Rattle.mb_problem.specs.declared.answer.Answer.TheVariants.{Counts};
 ghost use Rattle.mb_problem.specs.Network.{graph_of, plain_graph};
@@ -24,7 +24,7 @@ use weighted_graph::Graph;
 fn add_one(counts: &mut [u32], e: EdgeId)
     requires low { 1 ≤ e }
     requires high { e ≤ length counts.old }
-    requires small { slice_index counts.old (e - 1) < 2 ^ 31 }
+    requires value_limit { slice_index counts.old (e - 1) < 2 ^ 31 }
     ensures size { length counts.new ≡ length counts.old }
     ensures each { (k : ℕ) → k < length counts.old → slice_index counts.new k
         ≡ slice_index counts.old k + (if e == k + 1 then 1 else 0) }
@@ -35,7 +35,7 @@ fn add_one(counts: &mut [u32], e: EdgeId)
 /// Counts how often each edge is listed. At the start all counts are 0.
 fn add_listed(counts: &mut [u32], edges: &[EdgeId])
     requires numbers { All (λ e. (1 ≤ e) × (e ≤ length counts.old)) edges.now }
-    requires few { length edges.now < 2 ^ 31 }
+    requires size_limit { length edges.now < 2 ^ 31 }
     requires start { (k : ℕ) → k < length counts.old → slice_index counts.old k ≡ 0 }
     ensures { counts.new ≡ tabled (λ k. times edges.now (k + 1)) (length counts.old) }
 {
@@ -47,7 +47,7 @@ fn add_listed(counts: &mut [u32], edges: &[EdgeId])
 /// How often each of the numbers 1 to `count` is listed.
 fn count_numbers(alloc: Global, count: usize, numbers: &[EdgeId]) -> Result<Vec<u32>, OutOfMemory>
     requires numbers { All (λ e. (1 ≤ e) × (e ≤ count)) numbers.now }
-    requires few { length numbers.now < 2 ^ 31 }
+    requires size_limit { length numbers.now < 2 ^ 31 }
     ensures { IfOk result (λ counts. counts.items ≡ tabled (λ k. times numbers.now (k + 1)) count) }
 {
     let mut counts = vec![in alloc; 0u32; count]?;
@@ -62,7 +62,7 @@ pub fn count_listed(
     edges: &[EdgeId],
 ) -> Result<Vec<u32>, OutOfMemory>
     requires numbers { All (IsEdgeNumber (graph_of instance.now)) edges.now }
-    requires few { length edges.now < 2 ^ 31 }
+    requires size_limit { length edges.now < 2 ^ 31 }
     ensures { IfOk result (λ counts. counts.items ≡ times_each (graph_of instance.now) edges.now) }
 {
     count_numbers(alloc, instance.edges() as usize, edges)
@@ -74,7 +74,7 @@ pub fn count_listed(
 pub fn unweighted(alloc: Global, instance: &Instance) -> Result<Graph, OutOfMemory>
     ensures graph { IfOk result (λ h. h ≡ unweighted (plain_graph instance.now)) }
     ensures size { HasSize (size_of Gallai instance.now) (unweighted (plain_graph instance.now)) }
-    ensures plain { IfOk result HasNoLoop }
+    ensures loopless { IfOk result HasNoLoop }
 {
     let mut graph = Graph::new(alloc, instance.vertices());
     for edge in instance.edge_list() {

@@ -37,7 +37,7 @@ fn all_gate_sizes(alloc: Global, instance: &Instance, unit: bool) -> Result<Vec<
     ensures size { IfOk result (λ sizes. length sizes.items ≡ length instance.now.edges) }
     ensures each { IfOk result (λ sizes. (k : ℕ) → k < length instance.now.edges
         → slice_index sizes.items k ≡ gate_size instance.now (capped_room unit instance.now) k) }
-    ensures few { length instance.now.edges ≤ EDGE_LIMIT }
+    ensures size_limit { length instance.now.edges ≤ EDGE_LIMIT }
 {
     let mut sizes = Vec::with_capacity(alloc, instance.edges() as usize)?;
     for edge in instance.edge_list() {
@@ -90,7 +90,7 @@ pub fn count_entries(
     edges: &[EdgeId],
 ) -> Result<Vec<u32>, OutOfMemory>
     requires numbers { All (IsEdgeNumber (gadget_graph (capped_kind unit) instance.now)) edges.now }
-    requires few { IsNetwork instance.now → length edges.now < 2 ^ 32 }
+    requires size_limit { IsNetwork instance.now → length edges.now < 2 ^ 32 }
     ensures counts { IfOk result (λ counts. counts.items
         ≡ entry_counts instance.now (capped_room unit instance.now) edges.now) }
     ensures network { IsNetwork instance.now }

@@ -7,8 +7,8 @@
 #![tactic(auto)]
 
 mod entries;
-mod gates;
 mod rooms;
+mod subdivision;
 
 pub use entries::{count_entries, extract};
-pub use gates::capped;
+pub use subdivision::capped;

@@ -24,7 +24,7 @@ fn limit_of(unit: bool, edge: &InstanceEdge) -> Option<u32>
 /// The lesser of a limit and `most`.
 fn bounded(limit: Option<u32>, most: u32) -> u32
     ensures bounded { result ≡ bounded limit most }
-    ensures small { result ≤ most }
+    ensures value_limit { result ≤ most }
 {
     match limit {
         Some(limit) => most.min(limit),
@@ -36,7 +36,7 @@ fn bounded(limit: Option<u32>, most: u32) -> u32
 pub fn room_at(instance: &Instance, unit: bool, edge: &InstanceEdge) -> u32
     requires { IsEdgeWithin (vertices instance.now) (plain edge.now) }
     ensures room { result ≡ room_at unit instance.now edge.now }
-    ensures small { result ≤ VALUE_LIMIT }
+    ensures value_limit { result ≤ VALUE_LIMIT }
 {
     let most = instance.value(edge.u).min(instance.value(edge.v));
     bounded(limit_of(unit, edge), most)

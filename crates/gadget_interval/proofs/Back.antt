@@ -55,7 +55,7 @@ module _ (i : Network) (P : ℕ → ℕ → ℕ) (es : List ℕ) (net : IsNetwor
 
 -- what both halves of a perfect matching say
 pub record AreHalves (i : Network) (es : List ℕ) : Type 0 where
-  pub few : length es < 2 ^ 32
+  pub size_limit : length es < 2 ^ 32
   pub first : IsFeasible Interval i (Counts (half_counts i (in_first_half i es)))
   pub second : IsFeasible Interval i (Counts (half_counts i (in_second_half i es)))
   pub weighs : weight (graph_of i) (half_counts i (in_first_half i es)) +ℤ weight (graph_of i) (half_counts i (in_second_half i es)) ≡ walk_weight (halves_graph i) es
@@ -83,7 +83,7 @@ are_halves i es net perfect =
     let all = ap (weight (halves_graph i)) (listed-halves i es) in
     let listed = weight_of_list (halves_graph i) es perfect.numbers in
     record {
-      few = omega (arith, list-length (halves_graph i) es ends plain perfect, few-vertices false (at_most i) (upper-network i net));
+      size_limit = omega (arith, list-length (halves_graph i) es ends plain perfect, few-vertices false (at_most i) (upper-network i net));
       first = part-feasible i P es1 net (after-numbers 0 m es) covered;
       second = part-feasible i P es2 net (after-numbers m m es) covered';
       weighs = omega (arith, ints, both, all, listed, stands1.weighs, stands2.weighs);

@@ -124,7 +124,7 @@ pub fn interval(alloc: Global, instance: &Instance) -> Result<Graph, OutOfMemory
     // The certificate graph of `interval`, with the same four promises.
     ensures graph { IfOk result (λ h. h ≡ gadget_graph Interval instance.now) }
     ensures size { HasSize (size_of Interval instance.now) (gadget_graph Interval instance.now) }
-    ensures plain { IfOk result HasNoLoop }
+    ensures loopless { IfOk result HasNoLoop }
     ensures reached { ReachesAll Interval instance.now }
 {
     prove!(instance.vertices() <= VERTEX_LIMIT);

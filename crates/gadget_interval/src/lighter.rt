@@ -55,7 +55,7 @@ fn part_answer(
 ) -> Result<Answer, OutOfMemory>
     requires numbers { All (IsEdgeNumber (gadget_graph CapMatch upper.now))
         (listed_after before count edges.now) }
-    requires few { length edges.now < 2 ^ 32 }
+    requires size_limit { length edges.now < 2 ^ 32 }
     ensures { IfOk result (λ a. a ≡ Counts (entry_counts upper.now (room_of upper.now)
         (listed_after before count edges.now))) }
 {

@@ -70,7 +70,7 @@ pub fn copies(alloc: Global, instance: &Instance) -> Result<Graph, OutOfMemory>
     // The certificate graph of `bmatch`, with the same four promises.
     ensures graph { IfOk result (λ h. h ≡ copies_graph instance.now) }
     ensures size { HasSize (size_of BMatch instance.now) (copies_graph instance.now) }
-    ensures plain { IfOk result HasNoLoop }
+    ensures loopless { IfOk result HasNoLoop }
     ensures reached { ReachesAll BMatch instance.now }
 {
     prove!(instance.vertices() <= VERTEX_LIMIT);

@@ -99,7 +99,7 @@ pub fn double(alloc: Global, instance: &Instance) -> Result<Graph, OutOfMemory>
     // matching has its perfect matching there.
     ensures graph { IfOk result (λ h. h ≡ doubled_graph instance.now) }
     ensures size { HasSize (size_of Match instance.now) (doubled_graph instance.now) }
-    ensures plain { IfOk result HasNoLoop }
+    ensures loopless { IfOk result HasNoLoop }
     ensures reached { ReachesAll Match instance.now }
 {
     prove!(instance.vertices() <= VERTEX_LIMIT);

@@ -43,7 +43,7 @@ fn pair_starts(alloc: Global, instance: &Instance) -> Result<Vec<u64>, OutOfMemo
 /// Adds 1 to the count at a place.
 fn add_one(counts: &mut [u32], place: usize)
     requires inside { place < length counts.old }
-    requires small { slice_index counts.old place < 2 ^ 31 }
+    requires value_limit { slice_index counts.old place < 2 ^ 31 }
     ensures size { length counts.new ≡ length counts.old }
     ensures each { (k : ℕ) → k < length counts.old → slice_index counts.new k
         ≡ slice_index counts.old k + (if place == k then 1 else 0) }
@@ -57,7 +57,7 @@ fn add_pairs(counts: &mut [u32], instance: &Instance, starts: &[u64], edges: &[E
     requires starts { AreStarts (copy_pairs instance.now) (length instance.now.edges) starts.now }
     requires numbers { All (λ e. (1 ≤ e)
         × (e ≤ pairs_before instance.now (length instance.now.edges))) edges.now }
-    requires few { length edges.now < 2 ^ 31 }
+    requires size_limit { length edges.now < 2 ^ 31 }
     requires size { length counts.old ≡ length instance.now.edges }
     requires start { (k : ℕ) → k < length counts.old → slice_index counts.old k ≡ 0 }
     ensures { counts.new ≡ gathered instance.now edges.now }
@@ -78,7 +78,7 @@ fn count_pairs(
     requires starts { AreStarts (copy_pairs instance.now) (length instance.now.edges) starts.now }
     requires numbers { All (λ e. (1 ≤ e)
         × (e ≤ pairs_before instance.now (length instance.now.edges))) edges.now }
-    requires few { length edges.now < 2 ^ 31 }
+    requires size_limit { length edges.now < 2 ^ 31 }
     ensures counts { IfOk result (λ counts. counts.items ≡ gathered instance.now edges.now) }
 {
     let mut counts = vec![in alloc; 0u32; instance.edges() as usize]?;

@@ -21,7 +21,7 @@ fn add_copy(counts: &mut [u32], edge: EdgeId, copy: u32)
     requires first { 1 ≤ copy }
     requires last { copy ≤ 2 }
     requires number { 1 ≤ edge }
-    requires small { (k : ℕ) → k < length counts.old → slice_index counts.old k < 2 ^ 31 }
+    requires value_limit { (k : ℕ) → k < length counts.old → slice_index counts.old k < 2 ^ 31 }
     ensures size { length counts.new ≡ length counts.old }
     ensures each { (k : ℕ) → k < length counts.old → slice_index counts.new k
         ≡ slice_index counts.old k + (if edge == 2 * k + copy then 1 else 0) }
@@ -39,7 +39,7 @@ fn add_copies(counts: &mut [u32], edges: &[EdgeId], copy: u32)
     requires first { 1 ≤ copy }
     requires last { copy ≤ 2 }
     requires numbers { All (λ e. 1 ≤ e) edges.now }
-    requires few { length edges.now < 2 ^ 31 }
+    requires size_limit { length edges.now < 2 ^ 31 }
     requires start { (k : ℕ) → k < length counts.old → slice_index counts.old k ≡ 0 }
     ensures { counts.new ≡ tabled (λ k. times edges.now (2 * k + copy)) (length counts.old) }
 {
@@ -58,7 +58,7 @@ fn listed_copies(
     requires first { 1 ≤ copy }
     requires last { copy ≤ 2 }
     requires numbers { All (λ e. 1 ≤ e) edges.now }
-    requires few { length edges.now < 2 ^ 31 }
+    requires size_limit { length edges.now < 2 ^ 31 }
     ensures { IfOk result
         (λ counts. counts.items ≡ tabled (λ k. times edges.now (2 * k + copy)) count) }
 {
@@ -77,7 +77,7 @@ fn count_copies(
     requires first { 1 ≤ copy }
     requires last { copy ≤ 2 }
     requires numbers { All (λ e. 1 ≤ e) edges.now }
-    requires few { length edges.now < 2 ^ 31 }
+    requires size_limit { length edges.now < 2 ^ 31 }
     ensures { IfOk result (λ counts. counts.items ≡ copy_counts instance.now edges.now copy) }
 {
     let counts = listed_copies(alloc, link_count(instance) as usize, edges, copy)?;

@@ -9,7 +9,7 @@ use Rattle.mb_problem.specs.declared.answer.Answer.TheVariants.{Counts, Walk, No
 use Rattle.gadget_base.proofs.Common.{gadget_graph, IsPerfectList, place_in, sides_graph, times_each, tabled-at, times_each-at, times_each-length, times-small, perfect_from_list}
 use Rattle.gadget_base.proofs.Common.{weight_of_list, times-holds, use_at, degree-used, weight-used}
 use Rattle.mb_problem.specs.declared.answer.Answer.{Answer}
-use Rattle.mb_problem.specs.declared.kind.Measure.TheVariants.{Total}
+use Rattle.mb_problem.specs.declared.kind.Cost.TheVariants.{Total}
 use Rattle.gadget_tjoin.proofs.WalkParity.{walk-short}
 use Rattle.conservative_paths.specs.Within.{IsPathWithin}
 use Rattle.conservative_paths.proofs.ListedCounts.{listed-small, listed-weight}

@@ -60,7 +60,7 @@ path-turns odd i start es network is =
     record {
       first_each = times_each-length g (in_turn true es) ∙ edges-count i;
       second_each = times_each-length g (in_turn false es) ∙ edges-count i;
-      small = λ v. one_if-most (holds (walk_vertices g start es) v);
+      value_limit = λ v. one_if-most (holds (walk_vertices g start es) v);
       first = λ v low high. omega (arith, counted true v, missing true v, first-misses i start t v apart low high odd by, turn_first odd (one_if (eqb t v)));
       second = λ v low high. omega (arith, counted false v, missing false v, second-misses i start t v apart low high odd by, turn_second odd (one_if (eqb t v)));
     }

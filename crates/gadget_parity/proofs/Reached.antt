@@ -11,7 +11,7 @@ use Rattle.gadget_parity.proofs.SideGraph.{sides-within, all_places}
 pub record AreTurns (one two : ℕ → Bool) (i : Network) (x y : List ℕ) (h : ℕ → ℕ) : Type 0 where
   pub first_each : length x ≡ length i.edges
   pub second_each : length y ≡ length i.edges
-  pub small : (v : ℕ) → h v ≤ 1
+  pub value_limit : (v : ℕ) → h v ≤ 1
   pub first : (v : ℕ) → 1 ≤ v → v ≤ vertices i → degree (graph_of i) x v + cond (one v) 0 1 ≡ h v
   pub second : (v : ℕ) → 1 ≤ v → v ≤ vertices i → degree (graph_of i) y v + cond (two v) 0 1 ≡ h v
 
@@ -53,10 +53,10 @@ turn_counts one two i x y h = side_counts one two i (slice_index x) (slice_index
 
 module _ (one two : ℕ → Bool) (i : Network) (x y : List ℕ) (h : ℕ → ℕ) (network : IsNetwork i) (are : AreTurns one two i x y h) where
   first_kept : kept_counts one i (slice_index x) ≡ x
-  first_kept = kept-all one i x are.first_each (λ k b off. uncounted one i x h k network are.small are.first b off)
+  first_kept = kept-all one i x are.first_each (λ k b off. uncounted one i x h k network are.value_limit are.first b off)
 
   second_kept : kept_counts two i (slice_index y) ≡ y
-  second_kept = kept-all two i y are.second_each (λ k b off. uncounted two i y h k network are.small are.second b off)
+  second_kept = kept-all two i y are.second_each (λ k b off. uncounted two i y h k network are.value_limit are.second b off)
 
   pub turns-perfect : IsPerfect (sides_graph one two i) (turn_counts one two i x y h)
   turns-perfect =
@@ -67,11 +67,11 @@ module _ (one two : ℕ → Bool) (i : Network) (x y : List ℕ) (h : ℕ → �
       (λ v low high stands.
       side_counts-first one two i (slice_index x) (slice_index y) z v network low high stands
       ∙ ap₂ (λ (xs : List ℕ) (t : Bool). degree (graph_of i) xs v + cond (t && two v) (z v) 0) first_kept stands
-      ∙ once (two v) _ _ (h v) (ap (λ (t : Bool). degree (graph_of i) x v + cond t 0 1) (sym stands) ∙ are.first v low high) (are.second v low high) (are.small v))
+      ∙ once (two v) _ _ (h v) (ap (λ (t : Bool). degree (graph_of i) x v + cond t 0 1) (sym stands) ∙ are.first v low high) (are.second v low high) (are.value_limit v))
       (λ v low high stands.
       side_counts-second one two i (slice_index x) (slice_index y) z v network low high stands
       ∙ ap₂ (λ (xs : List ℕ) (t : Bool). degree (graph_of i) xs v + cond t (z v) 0) second_kept (ap (λ (t : Bool). one v && t) stands ∙ and_true (one v))
-      ∙ once (one v) _ _ (h v) (ap (λ (t : Bool). degree (graph_of i) y v + cond t 0 1) (sym stands) ∙ are.second v low high) (are.first v low high) (are.small v)))
+      ∙ once (one v) _ _ (h v) (ap (λ (t : Bool). degree (graph_of i) y v + cond t 0 1) (sym stands) ∙ are.second v low high) (are.first v low high) (are.value_limit v)))
 
   pub turns-weight : weight (sides_graph one two i) (turn_counts one two i x y h) ≡ weight (graph_of i) x +ℤ weight (graph_of i) y
   turns-weight =

@@ -6,8 +6,8 @@
 //! its weight.
 #![tactic(auto)]
 
+mod layers;
 mod path;
-mod sides;
 
+pub use layers::parity;
 pub use path::extract;
-pub use sides::parity;

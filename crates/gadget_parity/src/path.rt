@@ -110,7 +110,7 @@ pub fn extract(
     // A path of the parity asked for between the two ends, of at most the matching's weight, if no
     // edge weight is negative.
     ensures feasible { IfOk result (IsFeasible (path_kind odd) instance.now) }
-    ensures few { IfOk result (IsWalkWith (λ start steps. length steps
+    ensures size_limit { IfOk result (IsWalkWith (λ start steps. length steps
         ≤ length instance.now.edges) ⊥) }
     ensures weighs { IfOk result (λ a. weight_of (path_kind odd) instance.now a
         ≤ℤ walk_weight (gadget_graph (path_kind odd) instance.now) edges.now) }

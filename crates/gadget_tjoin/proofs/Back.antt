@@ -67,7 +67,7 @@ pub back-join : (i : Network) (odd : ℕ → ℕ) (front counts : List ℕ) → 
     → All (λ c. c ≤ 1) front → ((k : ℕ) → k < length i.edges → slice_index counts k ≡ slice_index front k) → IsOddAt i odd front
 back-join i odd front counts ok bit perfect size small same = record {
   one_each = size;
-  small = small;
+  value_limit = small;
   parity = λ v low high.
       let t = v - 1 in
       let e : t + 1 ≡ v = omega arith in

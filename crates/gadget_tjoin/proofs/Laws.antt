@@ -11,10 +11,10 @@ use Rattle.gadget_tjoin.proofs.Reached.{IsOddAt, paired, paired-perfect, paired-
 use Rattle.gadget_tjoin.proofs.Back.{AreOwn, own-join}
 
 pub as_odd : (parity : Parity) (i : Network) (counts : List ℕ) → IsJoinOf parity i counts → IsOddAt i (odd_at parity i) counts
-as_odd parity i counts join = record { one_each = join.one_each; small = join.at_most_once; parity = join.degrees }
+as_odd parity i counts join = record { one_each = join.one_each; value_limit = join.at_most_once; parity = join.degrees }
 
 pub as_join : (parity : Parity) (i : Network) (counts : List ℕ) → IsOddAt i (odd_at parity i) counts → IsJoinOf parity i counts
-as_join parity i counts odd = record { one_each = odd.one_each; at_most_once = odd.small; degrees = odd.parity }
+as_join parity i counts odd = record { one_each = odd.one_each; at_most_once = odd.value_limit; degrees = odd.parity }
 
 pub reaches-joins : (parity : Parity) (i : Network) → IsNetwork i → ReachesJoins parity i
 reaches-joins parity i ok = λ counts join. record {

@@ -46,7 +46,7 @@ paired i odd counts =
 -- what every join has: one count for each edge, at most 1, and its degrees' parities
 pub record IsOddAt (i : Network) (odd : ℕ → ℕ) (counts : List ℕ) : Type 0 where
   pub one_each : length counts ≡ length i.edges
-  pub small : All (λ c. c ≤ 1) counts
+  pub value_limit : All (λ c. c ≤ 1) counts
   pub parity : (v : ℕ) → 1 ≤ v → v ≤ vertices i → degree (graph_of i) counts v % 2 ≡ odd v
 
 -- the degrees at each place, in parts
@@ -63,7 +63,7 @@ module _ (i : Network) (odd : ℕ → ℕ) (counts : List ℕ) (ok : IsNetwork i
       let a : ℕ → ℕ = λ k. ends_at (here i k) (t + 1) in
       let size = join.one_each in
       let below = sum_to-le (λ k. slice_index counts k * ends_at (between_ports i odd k) (ports_below i odd (t + 1) + x + 1)) (λ k. taken (sum_to a k) (a k) x) (length i.edges)
-      (λ k b. rw (link-at i odd k t x ok b in_group) (times_small (slice_index counts k) _ (join.small k 0 (omega (arith, size))))) in
+      (λ k b. rw (link-at i odd k t x ok b in_group) (times_small (slice_index counts k) _ (join.value_limit k 0 (omega (arith, size))))) in
       omega (arith, below, taken-small a (length i.edges) x)
 
   -- the places of a group together
@@ -101,7 +101,7 @@ module _ (i : Network) (odd : ℕ → ℕ) (counts : List ℕ) (ok : IsNetwork i
     at_most_one =
         let P : ℕ → Type 0 = λ q. q ≤ 1 in
         let size = join.one_each in
-        All-append P (tabled (slice_index counts) (length i.edges)) _ (All-tabled P (slice_index counts) (length i.edges) (λ k b. join.small k 0 (omega (arith, size))))
+        All-append P (tabled (slice_index counts) (length i.edges)) _ (All-tabled P (slice_index counts) (length i.edges) (λ k b. join.value_limit k 0 (omega (arith, size))))
         (All-blocks P _ (vertices i)
         (λ s b.
         let n = group_size i odd s in

@@ -12,7 +12,7 @@ ghost use Rattle.gadget_tjoin.specs.Joins.{ReachesJoins};
 ghost use Rattle.gadget_tjoin.specs.Groups.{AreGroups};
 
 use crate::groups::{add_cliques, group_sizes};
-use crate::links::add_links;
+use crate::port_links::add_links;
 use gadget_base::starts;
 use mb_base::OutOfMemory;
 use mb_problem::{Instance, Parity};
@@ -69,7 +69,7 @@ pub fn ports(alloc: Global, instance: &Instance, parity: &Parity) -> Result<Grap
         ≡ ports_graph instance.now (odd_at parity.now instance.now)) }
     ensures size { HasSize (ports_size instance.now (odd_at parity.now instance.now))
         (ports_graph instance.now (odd_at parity.now instance.now)) }
-    ensures plain { IfOk result HasNoLoop }
+    ensures loopless { IfOk result HasNoLoop }
     ensures reached { ReachesJoins parity.now instance.now }
 
     // Each T-join, each tour (`postman`, if no weight is negative) and each path (`path`) has its

@@ -18,7 +18,7 @@ fn edge_counts(alloc: Global, instance: &Instance) -> Result<Vec<u64>, OutOfMemo
     ensures size { IfOk result (λ counts. length counts.items ≡ vertices instance.now) }
     ensures each { IfOk result (λ counts. (k : ℕ) → k < vertices instance.now
         → slice_index counts.items k ≡ edge_count_at instance.now (k + 1)) }
-    ensures small { IfOk result (λ counts. (k : ℕ) → k < vertices instance.now
+    ensures value_limit { IfOk result (λ counts. (k : ℕ) → k < vertices instance.now
         → slice_index counts.items k ≤ 2 * EDGE_LIMIT) }
     ensures network { IsNetwork instance.now }
 {

@@ -5,9 +5,9 @@
 #![tactic(auto)]
 
 mod build;
+mod extraction;
 mod groups;
-mod links;
-mod taken;
+mod port_links;
 
 pub use build::ports;
-pub use taken::{extract, marked};
+pub use extraction::{extract, marked};

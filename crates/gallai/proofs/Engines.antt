@@ -80,7 +80,7 @@ within_limits i g network same =
 -- the counts of a matching by the numbers of the instance
 pub record AreCounted (i : Network) (s : Solution) (all : List ℕ) : Type 0 where
   pub numbers : All (IsEdgeNumber (graph_of i)) all
-  pub few : length all ≤ length i.edges
+  pub size_limit : length all ≤ length i.edges
   pub counts : times_each (graph_of i) all ≡ with_loops i (matching_of s.graph s.mates)
 
 pub counted-edges : (i : Network) (s : Solution) (h : Multigraph) (numbers es all : List ℕ) → h ≡ searched_graph i → s.graph ≡ h → numbers ≡ link_numbers i
@@ -92,4 +92,4 @@ counted-edges i s h numbers es all is same links lists up listed =
     let ours : ListsCounts k counts es = subst (λ (g : Multigraph). ListsCounts g counts es) is (subst (λ (g : Multigraph). ListsCounts h (matching_of g s.mates) es) (sym same) lists) in
     let edges : All (IsEdgeNumber (graph_of i)) (moved i es) = moved-numbers i es ours.numbers in
     let short = few-steps 1 i (moved i es) edges (λ e b. ascending-once (moved i es) (e + 1) (moved-ascends i es ours.numbers up)) in
-    rw moves (record { numbers = edges; few = omega (arith, short); counts = moved-counts i counts es ours })
+    rw moves (record { numbers = edges; size_limit = omega (arith, short); counts = moved-counts i counts es ours })

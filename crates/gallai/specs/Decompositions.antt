@@ -5,8 +5,8 @@ use Rattle.std.specs.Prelude.{if◌then◌else◌}
 use Rattle.std.specs.List.Sorted.{IsStrictlyIncreasing}
 use Rattle.graph_theory.specs.Graph.{IsEdgeNumber}
 use Rattle.graph_theory.specs.Parts.{IsVertexSet}
-use Rattle.outer_sets.specs.Matchings.{IsGreatest, IsOuterSet, IsBorder}
-use Rattle.outer_sets.specs.Decomposition.{IsEvenPath, IsDecomposed, unweighted}
+use Rattle.gallai_theory.specs.Matchings.{IsGreatest, IsOuterSet, IsBorder}
+use Rattle.gallai_theory.specs.Decomposition.{IsEvenPath, IsDecomposed, unweighted}
 use Rattle.mb_problem.specs.Network.{Network, vertices, graph_of, plain_graph}
 use Rattle.mb_problem.specs.Size.{is_loop_at}
 use Rattle.gadget_base.specs.Blocks.{blocks}

@@ -1,6 +1,6 @@
 ghost use Rattle.std.specs.Prelude.{◌≡◌, ◌≤◌, ◌+◌, true, None, Some, IfOk};
 ghost use Rattle.graph_theory.specs.Parts.{holds};
-ghost use Rattle.outer_sets.specs.Decomposition.{IsEvenPath, unweighted};
+ghost use Rattle.gallai_theory.specs.Decomposition.{IsEvenPath, unweighted};
 ghost use Rattle.mb_problem.specs.declared.kind.Kind.TheVariants.{Gallai};
 ghost use Rattle.mb_problem.specs.Network.{IsNetwork, graph_of, plain_graph};
 ghost use Rattle.mb_problem.specs.Size.{size_of};
@@ -10,16 +10,16 @@ ghost use Rattle.mwpm_engine.specs.Solutions.{Ends, matching_of, most_steps, siz
 ghost use Rattle.gallai.specs.Decompositions.{ArePathsFrom, IsDecomposition, link_numbers};
 ghost use Rattle.gallai.specs.Finders.{Finds};
 
+use crate::edge_numbers::{link_numbers, numbers_of};
 use crate::finding::{Finder, finder_of, tested_path};
 use crate::found::Decomposition;
-use crate::numbers::{link_numbers, numbers_of};
 use crate::reading::{greatest_matching, outer_vertices};
 use gadget_base::unweighted;
+use gallai_theory::laws;
 use least_joins::{barrier_vertices, matching};
 use mb_base::{EdgeId, OutOfMemory, Sequence, Steps, VertexId};
 use mb_problem::{EDGE_LIMIT, Instance};
 use mwpm_engine::{Engine, Outcome};
-use outer_sets::laws;
 use std::alloc::Global;
 use std::sync::ledger::Ledger;
 use weighted_graph::Graph;
@@ -33,7 +33,7 @@ fn whole(
 ) -> Result<Decomposition, OutOfMemory>
     requires network { IsNetwork instance.now }
     requires graph { graph.now ≡ unweighted (plain_graph instance.now) }
-    requires same { engine.now.graph ≡ graph.now }
+    requires same_graph { engine.now.graph ≡ graph.now }
     requires matched { engine.now.outcome ≡ Some Matched }
     requires ends { Ends engine.now Matched }
     ensures { IfOk result (IsDecomposition instance.now) }
@@ -136,7 +136,7 @@ fn parted(
 ) -> Result<Decomposition, OutOfMemory>
     requires network { IsNetwork instance.now }
     requires graph { graph.now ≡ unweighted (plain_graph instance.now) }
-    requires same { engine.now.graph ≡ graph.now }
+    requires same_graph { engine.now.graph ≡ graph.now }
     requires barrier { engine.now.outcome ≡ Some Barrier }
     requires ends { Ends engine.now Barrier }
     ensures { IfOk result (IsDecomposition instance.now) }
@@ -168,8 +168,8 @@ fn searched<L: Ledger>(
 ) -> Result<Decomposition, OutOfMemory>
     requires network { IsNetwork instance.now }
     requires graph { graph.now ≡ unweighted (plain_graph instance.now) }
-    requires same { engine.old.graph ≡ graph.now }
-    requires fresh { engine.old.outcome ≡ None }
+    requires same_graph { engine.old.graph ≡ graph.now }
+    requires not_run { engine.old.outcome ≡ None }
     ensures found { IfOk result (IsDecomposition instance.now) }
     ensures steps { steps.new ≤ steps.old + most_steps (size_of_graph graph.now) }
 {

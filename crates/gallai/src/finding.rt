@@ -1,7 +1,7 @@
 //! Paths that are found quickly and tested before they are used.
 ghost use Rattle.std.specs.Prelude.{◌<◌, ◌≤◌, ◌^◌, length, All, IfOk, IfSome};
 ghost use Rattle.graph_theory.specs.Graph.{IsEdgeNumber};
-ghost use Rattle.outer_sets.specs.Decomposition.{IsEvenPath};
+ghost use Rattle.gallai_theory.specs.Decomposition.{IsEvenPath};
 ghost use Rattle.mb_problem.specs.Network.{IsNetwork, vertices, graph_of};
 ghost use Rattle.gadget_base.specs.Listed.{times_each};
 ghost use Rattle.gallai.specs.Finders.{Finds};
@@ -28,7 +28,7 @@ pub(crate) fn finder_of(
     matching: &[EdgeId],
 ) -> Result<Finder, OutOfMemory>
     requires numbers { All (IsEdgeNumber (graph_of instance.now)) matching.now }
-    requires few { length matching.now < 2 ^ 31 }
+    requires size_limit { length matching.now < 2 ^ 31 }
     ensures { IfOk result (Finds instance.now (times_each (graph_of instance.now) matching.now)) }
 {
     let counts = count_listed(alloc, instance, matching)?;

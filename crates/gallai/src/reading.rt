@@ -16,7 +16,7 @@ use weighted_graph::Graph;
 /// Whether the matching has an edge: it is the edge at its first end.
 fn is_matched(engine: &Engine, graph: &Graph, e: EdgeId) -> bool
     requires barrier { engine.now.outcome ≡ Some Barrier }
-    requires same { engine.now.graph ≡ graph.now }
+    requires same_graph { engine.now.graph ≡ graph.now }
     requires edge { IsEdgeNumber graph.now e }
     ensures { result ≡ (mate_at engine.now.mates (edge_of graph.now e).u == e) }
 {
@@ -35,7 +35,7 @@ fn push_matched(
     e: EdgeId,
 ) -> Result<(), OutOfMemory>
     requires barrier { engine.now.outcome ≡ Some Barrier }
-    requires same { engine.now.graph ≡ graph.now }
+    requires same_graph { engine.now.graph ≡ graph.now }
     requires edge { IsEdgeNumber graph.now e }
     ensures { OnOk result (edges.new.items
         ≡ (if mate_at engine.now.mates (edge_of graph.now e).u == e
@@ -55,7 +55,7 @@ pub fn greatest_matching(
     graph: &Graph,
 ) -> Result<Vec<EdgeId>, OutOfMemory>
     requires barrier { engine.now.outcome ≡ Some Barrier }
-    requires same { engine.now.graph ≡ graph.now }
+    requires same_graph { engine.now.graph ≡ graph.now }
     ensures counts { IfOk result (λ v. ListsCounts graph.now
         (matching_of graph.now engine.now.mates) v.items) }
     ensures ascending { IfOk result (λ v. IsStrictlyIncreasing v.items) }
@@ -93,7 +93,7 @@ pub fn outer_vertices(
     graph: &Graph,
 ) -> Result<Vec<VertexId>, OutOfMemory>
     requires barrier { engine.now.outcome ≡ Some Barrier }
-    requires same { engine.now.graph ≡ graph.now }
+    requires same_graph { engine.now.graph ≡ graph.now }
     requires set { IsVertexSet graph.now.vertices engine.now.outer }
     ensures { IfOk result (λ v. v.items ≡ engine.now.outer) }
 {

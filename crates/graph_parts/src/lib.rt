@@ -1,5 +1,5 @@
 //! The components that a graph falls into where a set of vertices is removed, and joins along trees
-//! that span them. It depends on `mb_base`, `graph_theory`, `outer_sets`, `weighted_graph` and
+//! that span them. It depends on `mb_base`, `graph_theory`, `gallai_theory`, `weighted_graph` and
 //! `mb_problem`. It promises the component of a vertex, ascending; the number of components of odd
 //! size, also if they have to lie within a set; whether all edges lie in one component; and for
 //! each parity a join, or the first component that excludes one.

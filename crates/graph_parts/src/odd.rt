@@ -3,7 +3,7 @@ ghost use Rattle.std.specs.Prelude.{true, false, slice_index_or, IsTrue, IfOk, I
 ghost use Rattle.graph_theory.specs.Graph.{IsGraph};
 ghost use Rattle.graph_theory.specs.Parts.{holds, IsVertexSet};
 ghost use Rattle.graph_theory.specs.Barrier.{IsOddCount};
-ghost use Rattle.outer_sets.specs.Decomposition.{HoldsOddComponents};
+ghost use Rattle.gallai_theory.specs.Decomposition.{HoldsOddComponents};
 ghost use Rattle.weighted_graph.specs.Index.{IsIndex};
 ghost use Rattle.graph_parts.specs.Marks.{MarksSet};
 ghost use Rattle.graph_parts.specs.Heads.{SeenBelow};

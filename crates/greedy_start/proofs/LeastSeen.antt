@@ -3,7 +3,7 @@ use Rattle.alt_forest.proofs.Common.{◌≡◌, ◌∙◌, ℕ, ◌+◌, ◌<◌
 use Rattle.alt_forest.proofs.Common.{eqb-false, AllWithin-more, AllWithin-none, All-map, at_read, IsEdgeNumber, edge_of, touches, holds, around-has, holds_all, is_vertex, numbers_of}
 use Rattle.alt_forest.proofs.Common.{HasShape, edges_around, incident_count, incidence_around}
 use Rattle.alt_forest.specs.declared.search.Search.{Search}
-use Rattle.search_lists.specs.declared.incident_edges.IncidentEdge.{IncidentEdge}
+use Rattle.search_tables.specs.declared.incident_edges.IncidentEdge.{IncidentEdge}
 
 abbrev pub HaveSeen : (ℕ → Type 0) → List IncidentEdge → ℕ → Type 0
 HaveSeen Q xs i = AllWithin (λ (p : IncidentEdge). Q p.edge) xs 0 i

@@ -40,7 +40,7 @@ lead_rises s start v l graph h vertex lead exposed =
       even = lead.least.even;
       each = each;
       high = rise_high s start v l.least.by graph h vertex each none;
-      still = rise_still s start v l.least.by graph h vertex lead.least.low each none;
+      unweighted = rise_still s start v l.least.by graph h vertex lead.least.low each none;
     }
 
 -- it can take the far end of the least edge, where the dual falls by 0, by all that it can, or by the difference of the two slacks

@@ -9,7 +9,7 @@ use Rattle.greedy_start.proofs.StartSearch.{end_exposed}
 -- once the dual of a vertex has risen
 module _ (s u : Search) (v e : ℕ) (d : ℤ) (same : state_of u ≡ raised_at (state_of s) v d) (begun : IsBegun (state_of s) s.start) where
   pub raised_settled : IsSound s → touches (edge_of s.graph e) v ≡ true → JoinsExposed (state_of u) e → CanPair (state_of s) v d e
-  raised_settled h t j = joins_here (state_of s) v d e h.shape.graph.plain begun.alone t (subst (λ (x : State). JoinsExposed x e) same j)
+  raised_settled h t j = joins_here (state_of s) v d e h.shape.graph.loopless begun.alone t (subst (λ (x : State). JoinsExposed x e) same j)
 
   pub raised_others : touches (edge_of s.graph e) v ≡ false → JoinsExposed (state_of u) e → JoinsExposed (state_of s) e
   raised_others t j = joins_there (state_of s) v d e begun.alone t (subst (λ (x : State). JoinsExposed x e) same j)

@@ -65,7 +65,8 @@ raised_begun s start v d vertex can h = record {
   low = λ c is. each_dual s v d (λ y. start ≤ℤ y) can.low c (h.low c is);
   high = λ c is. each_dual s v d (λ y. y ≤ℤ (pos 3 *ℤ WEIGHT_LIMIT)) can.high c (h.high c is);
   parity = λ c is. each_dual s v d (λ y. SameParity y start) (even_more (s.dual v) start d (h.parity v vertex) can.even) c (h.parity c is);
-  still = λ zero c is. let was = h.still zero v vertex in let more = can.still zero in each_dual s v d (λ y. y ≡ pos 0) (omega (arith, ints, was, more)) c (h.still zero c is);
+  unweighted = λ zero c is. let was = h.unweighted zero v vertex in let more = can.unweighted zero in each_dual s v d (λ y. y
+      ≡ pos 0) (omega (arith, ints, was, more)) c (h.unweighted zero c is);
 }
 
 -- what the raised dual leaves of the state
@@ -138,8 +139,8 @@ module _ (s : State) (start : ℤ) (v : ℕ) (d : ℤ) (graph : IsGraph s.graph)
       (λ (e, is, t).
       let most = each e is t in let was = slack_flat s h.alone e in
       let weight : doubled s.graph s.weighted e ≡ pos 0 = ap (λ q. doubled s.graph q e) zero in
-      let a = h.still zero (edge_of s.graph e).u (u_vertex s.graph e graph.ends is) in
-      let b = h.still zero (edge_of s.graph e).v (v_vertex s.graph e graph.ends is) in
+      let a = h.unweighted zero (edge_of s.graph e).u (u_vertex s.graph e graph.ends is) in
+      let b = h.unweighted zero (edge_of s.graph e).v (v_vertex s.graph e graph.ends is) in
       omega (arith, ints, low, most, was, weight, a, b))
       (some_around s.graph v)
 

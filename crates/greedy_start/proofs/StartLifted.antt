@@ -16,7 +16,7 @@ module _ (s : State) (start : ℤ) (v : ℕ) (least d : ℤ) (graph : IsGraph s.
   most : (e : ℕ) → IsEdgeNumber s.graph e → touches (edge_of s.graph e) v ≡ true → d ≤ℤ slack_of s e
   most e is t =
       let a : ℕ = (edge_of s.graph e).u in let b : ℕ = (edge_of s.graph e).v in
-      let was = slack_flat s h.begun.alone e in
+      let was = slack_flat s h.started.alone e in
       let twice : doubled s.graph s.weighted e ≡ pos 2 *ℤ (edge_of s.graph e).w = ap (λ q. doubled s.graph q e) h.weighted in
       let room = each e is t in
       let below_a = h.below a e (u_vertex s.graph e graph.ends is) is (touches-u (edge_of s.graph e)) in
@@ -28,18 +28,18 @@ module _ (s : State) (start : ℤ) (v : ℕ) (least d : ℤ) (graph : IsGraph s.
 
   pub lift_rises : CanMove s start v d
   lift_rises = record {
-    exposed = (outer_flat s h.begun.alone v vertex, h.unmated v);
+    exposed = (outer_flat s h.started.alone v vertex, h.unmated v);
     low = let here = begins in omega (arith, ints, here, low);
     even = even;
     each = most;
     high = let here = begins in let most = weight.1 in omega (arith, ints, here, less, most);
-    still = λ unweighted. absurd (both_ways s.weighted unweighted h.weighted);
+    unweighted = λ unweighted. absurd (both_ways s.weighted unweighted h.weighted);
   }
 
   pub lifted_next : IsLifted (raised_at s v d) start v
   lifted_next = record {
     weighted = h.weighted;
-    begun = raised_begun s start v d vertex lift_rises h.begun;
+    started = raised_begun s start v d vertex lift_rises h.started;
     below = λ x e is number t. by_test (eqb x v)
         (λ q.
         let now : (raised_at s v d).dual x ≡ s.dual x +ℤ d = raised_here s v d x q in

@@ -23,7 +23,7 @@ abbrev pub mated_by : State → ℕ → Option ℕ → State
 mated_by s e o = record s { mate = put (put s.mate (edge_of s.graph e).u o) (edge_of s.graph e).v o }
 
 pub mated_begun : (s : State) (start : ℤ) (m : ℕ → Option ℕ) → IsBegun s start → IsBegun (record s { mate = m }) start
-mated_begun s start m h = record { alone = h.alone; out = h.out; start_weight = h.start_weight; low = h.low; high = h.high; parity = h.parity; still = h.still }
+mated_begun s start m h = record { alone = h.alone; out = h.out; start_weight = h.start_weight; low = h.low; high = h.high; parity = h.parity; unweighted = h.unweighted }
 
 module _ (s : State) (e : ℕ) where
   abbrev a : ℕ

@@ -1,7 +1,7 @@
 -- The start of a pass as a whole.
 use Rattle.alt_forest.proofs.Common.{◌≡◌, ◌∙◌, ℕ, ◌+◌, ◌*◌, ◌≤◌, ℤ, pos, ◌≤ℤ◌, true, false, [], length, None, refl, sym, ap, subst, arith, ints}
 use Rattle.alt_forest.proofs.Common.{WEIGHT_LIMIT, Multigraph, IsGraph, IsWeight, edges_around, sum_to, sum_to-more, is_vertex, Out, State, IsOutermost, exposed_count, IsStart, edge_in}
-use Rattle.alt_forest.proofs.Common.{is_given, label_at, state_of, SameParity, IsQueued, HasNoTree, AreListed, IsStanding, moment_of, all_ends, parity_refl, parity_sym, parity_trans}
+use Rattle.alt_forest.proofs.Common.{is_given, label_at, state_of, SameParity, IsQueued, HasNoTree, AreListed, HasTreeNodes, moment_of, all_ends, parity_refl, parity_sym, parity_trans}
 use Rattle.alt_forest.proofs.Common.{none_queued}
 use Rattle.alt_forest.specs.declared.search.Search.{Search}
 use Rattle.alt_forest.specs.declared.weights.Weights.{Weights}
@@ -35,7 +35,7 @@ begun_anew s g w start same weights alone out is duals =
       low = λ v vertex. let here = each v vertex in omega (arith, ints, here);
       high = λ v vertex. let here = each v vertex in let most : start ≤ℤ WEIGHT_LIMIT = range.1 in omega (arith, ints, here, most);
       parity = λ v vertex. subst (λ y. SameParity y start) (sym (each v vertex)) (parity_refl start);
-      still = λ unweighted v vertex. each v vertex ∙ start_still g w start is (sym weights ∙ unweighted);
+      unweighted = λ unweighted v vertex. each v vertex ∙ start_still g w start is (sym weights ∙ unweighted);
     }
 
 -- two duals have one parity
@@ -51,11 +51,11 @@ module _ (s t : Search) (rest : t ≡ record s { arena = record s.arena { duals 
   no_tree a is = out a
 
   pub still_queued : IsQueued s → IsQueued t
-  still_queued h = none_queued t still_out (ap (λ (x : Search). x.clock) rest ∙ h.still no_tree) (λ item. ap (λ (x : Search). moment_of x.queue item) rest ∙ h.empty no_tree item)
+  still_queued h = none_queued t still_out (ap (λ (x : Search). x.clock) rest ∙ h.idle_clock no_tree) (λ item. ap (λ (x : Search). moment_of x.queue item) rest ∙ h.empty no_tree item)
 
-  pub still_standing : IsStanding s → IsStanding t
-  still_standing h = record {
-    listed = subst (λ (x : Search). AreListed x.graph.vertices x.standing.nodes x.standing.seeds) (sym rest) h.listed;
+  pub still_tree_nodes : HasTreeNodes s → HasTreeNodes t
+  still_tree_nodes h = record {
+    listed = subst (λ (x : Search). AreListed x.graph.vertices x.tree_nodes.nodes x.tree_nodes.tree_ids) (sym rest) h.listed;
     trees = λ a is ne. absurd (ne (still_out a));
     same = λ a b is also ne ne_b roots. absurd (ne (still_out a));
     moves = λ a is. ap (λ (x : Search). label_at x.arena.motions a) rest ∙ h.moves a (subst (λ (x : Search). IsOutermost (state_of x) a) rest is) ∙ out a ∙ sym (still_out a);

@@ -25,7 +25,7 @@ module _ (s : Search) (f : Family) (v : ℕ) (d : ℤ) (is : f ≡ raised s.aren
     pub raised_sound : IsFamily f → IsSound (record s { arena = f })
     raised_sound good =
         let p = h.shape in let a = ap (λ (k : Family). k.vertex_count) is ∙ p.arena in
-        let state = raised_state (state_of s) s.start v d h.depth h.shape.graph.plain can vertex begun h.state in
+        let state = raised_state (state_of s) s.start v d h.depth h.shape.graph.loopless can vertex begun h.state in
         record {
           shape = record { graph = p.graph; family = good; arena = a; labels = p.labels; parents = p.parents; mates = p.mates; circuit = p.circuit; room = p.room };
           depth = h.depth;
@@ -63,7 +63,7 @@ least_rises s v x mate h begun vertex exposed rise each none = record {
   even = rise.even;
   each = each;
   high = rise_high (state_of s) s.start v x h.shape.graph.graph begun vertex each none;
-  still = rise_still (state_of s) s.start v x h.shape.graph.graph begun vertex rise.low each none;
+  unweighted = rise_still (state_of s) s.start v x h.shape.graph.graph begun vertex rise.low each none;
 }
 
 -- an edge of the least slack is tight once the dual of its end has risen by it, and its two ends are exposed
@@ -71,7 +71,7 @@ module _ (s t : Search) (v e : ℕ) (x : ℤ) (same : state_of t ≡ raised_at (
     (can : CanPair (state_of s) v x e) where
   pub can_be_paired : IsTight (state_of t) e × IsExposed (state_of t) (edge_of t.graph e).u × IsExposed (state_of t) (edge_of t.graph e).v
   can_be_paired =
-      let now = slack_here (state_of s) v x e begun.alone (ends_differ s.graph e h.shape.graph.plain can.is_edge) can.at_vertex in
+      let now = slack_here (state_of s) v x e begun.alone (ends_differ s.graph e h.shape.graph.loopless can.is_edge) can.at_vertex in
       let was = can.slack_is in
       let ends = both_ends s.graph e v h.shape.graph.graph.ends can.is_edge (IsExposed (state_of s)) can.at_vertex exposed can.exposed in
       subst (λ (y : State). IsTight y e × IsExposed y (edge_of y.graph e).u × IsExposed y (edge_of y.graph e).v) (sym same)

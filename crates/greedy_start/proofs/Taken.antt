@@ -40,7 +40,7 @@ module _ (old t : Search) (v : ℕ) (l : Lead) (fall : ℤ) (rest : t ≡ record
   graph = sound.shape.graph.graph
 
   plain : HasNoLoop s.graph
-  plain = sound.shape.graph.plain
+  plain = sound.shape.graph.loopless
 
   -- the changes of the two duals as they are told
   abbrev down : ℤ
@@ -69,7 +69,7 @@ module _ (old t : Search) (v : ℕ) (l : Lead) (fall : ℤ) (rest : t ≡ record
     even = let k = can.even.0 in let same : fall ≡ pos 0 +ℤ (k +ℤ k) = can.even.1 in (neg_ℤ k, omega (arith, ints, same));
     each = λ f is t. let here = sound.state.slacks f is in omega (arith, ints, here, low);
     high = let most = h.high l.least.far lead.least.far_vertex in omega (arith, ints, most, low);
-    still = λ zero. absurd (unweighted zero);
+    unweighted = λ zero. absurd (unweighted zero);
   })
 
   -- once it has fallen
@@ -107,7 +107,7 @@ module _ (old t : Search) (v : ℕ) (l : Lead) (fall : ℤ) (rest : t ≡ record
         (j +ℤ k, omega (arith, ints, same, by));
     each = rise_each;
     high = rise_high fallen t.start v (l.least.by +ℤ fall) graph begun given.1 rise_each (some_edge s.graph (slack_of s) v l.least lead.least);
-    still = λ zero. absurd (unweighted zero);
+    unweighted = λ zero. absurd (unweighted zero);
   }
 
   module _ (u : Search) (fell : u ≡ record t { arena = record t.arena { duals = u.arena.duals } })

@@ -20,7 +20,8 @@ pub record IsBegun (s : State) (start : ℤ) : Type 0 where
   pub low : (v : ℕ) → is_vertex s.graph.vertices v ≡ true → start ≤ℤ s.dual v
   pub high : (v : ℕ) → is_vertex s.graph.vertices v ≡ true → s.dual v ≤ℤ (pos 3 *ℤ WEIGHT_LIMIT)
   pub parity : (v : ℕ) → is_vertex s.graph.vertices v ≡ true → SameParity (s.dual v) start
-  pub still : s.weighted ≡ false → (v : ℕ) → is_vertex s.graph.vertices v ≡ true → s.dual v ≡ pos 0
+  pub unweighted : s.weighted ≡ false → (v : ℕ) → is_vertex s.graph.vertices v ≡ true → s.dual v
+      ≡ pos 0
 
 -- the dual of an exposed vertex can change by d: it doesn't fall below the start, no slack of its
 -- edges becomes negative, and it keeps its parity and its range
@@ -31,7 +32,7 @@ pub record CanMove (s : State) (start : ℤ) (v : ℕ) (d : ℤ) : Type 0 where
   pub each : (e : ℕ) → IsEdgeNumber s.graph e → touches (edge_of s.graph e) v ≡ true
       → d ≤ℤ slack_of s e
   pub high : (s.dual v +ℤ d) ≤ℤ (pos 3 *ℤ WEIGHT_LIMIT)
-  pub still : s.weighted ≡ false → d ≡ pos 0
+  pub unweighted : s.weighted ≡ false → d ≡ pos 0
 
 -- an edge at v has this slack and leads to an exposed vertex
 pub record CanPair (s : State) (v : ℕ) (slack : ℤ) (e : ℕ) : Type 0 where
@@ -61,7 +62,7 @@ pub record JoinsExposed (s : State) (e : ℕ) : Type 0 where
 -- start: none is above the weight of an edge at it, and no vertex has a mate.
 pub record IsLifted (s : State) (start : ℤ) (k : ℕ) : Type 0 where
   pub weighted : s.weighted ≡ true
-  pub begun : IsBegun s start
+  pub started : IsBegun s start
   pub below : (v e : ℕ) → is_vertex s.graph.vertices v ≡ true → IsEdgeNumber s.graph e
       → touches (edge_of s.graph e) v ≡ true → s.dual v ≤ℤ (edge_of s.graph e).w
   pub waiting : (v : ℕ) → is_vertex s.graph.vertices v ≡ true → k < v → s.dual v ≡ start

@@ -25,7 +25,7 @@ pub fn is_exposed(search: &Search, node: NodeId) -> bool
 /// Whether a vertex has no mate, if no blossom stands: it is outermost.
 pub(crate) fn is_free(search: &Search, v: VertexId) -> bool
     requires sound { IsSound search.now }
-    requires begun { IsBegun (state_of search.now) search.now.start }
+    requires started { IsBegun (state_of search.now) search.now.start }
     requires vertex { is_vertex search.now.graph.vertices v ≡ true }
     ensures { (result ≡ true) ↔ (edge_in search.now.mates.items v ≡ None) }
 {

@@ -17,7 +17,7 @@ pub(crate) fn set_ends(search: &mut Search, e: EdgeId, mate: &Option<EdgeId>)
         ≡ put (put (edge_in search.old.mates.items) (edge_of search.old.graph e).u mate.now)
         (edge_of search.old.graph e).v mate.now }
     ensures len { vec_len search.new.mates ≡ vec_len search.old.mates }
-    ensures rest { search.new ≡ record search.old { mates = search.new.mates } }
+    ensures frame { search.new ≡ record search.old { mates = search.new.mates } }
 {
     let (u, v, _) = search.graph.edge(e);
     set_edge(&mut search.mates, NodeId::new(u.number()), *mate);
@@ -27,14 +27,14 @@ pub(crate) fn set_ends(search: &mut Search, e: EdgeId, mate: &Option<EdgeId>)
 /// Takes the edge out of the matching by which a vertex is matched, if it is.
 pub(crate) fn free(search: &mut Search, v: VertexId)
     requires sound { IsSound search.old }
-    requires begun { IsBegun (state_of search.old) search.old.start }
+    requires started { IsBegun (state_of search.old) search.old.start }
     requires vertex { is_vertex search.old.graph.vertices v ≡ true }
     ensures sound { IsSound search.new }
-    ensures begun { IsBegun (state_of search.new) search.new.start }
+    ensures started { IsBegun (state_of search.new) search.new.start }
     ensures exposed { IsExposed (state_of search.new) v }
     ensures others { (a : ℕ) → IsExposed (state_of search.old) a
         → IsExposed (state_of search.new) a }
-    ensures rest { search.new ≡ record search.old { mates = search.new.mates } }
+    ensures frame { search.new ≡ record search.old { mates = search.new.mates } }
 {
     let Some(e) = search.mate(NodeId::new(v.number())) else {
         return;

@@ -7,14 +7,14 @@
 
 mod exposed;
 mod freeing;
-mod lifting;
 mod moving;
 mod pairing;
+mod raising;
 mod reaching;
 mod slacks;
 mod sweeping;
 
 pub use exposed::is_exposed;
-pub use lifting::lift_all;
 pub use pairing::start_all;
+pub use raising::lift_all;
 pub use sweeping::sweep_twice;

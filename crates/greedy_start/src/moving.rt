@@ -11,15 +11,15 @@ use blossom_arena::NodeId;
 /// Changes the dual of an exposed vertex by d.
 pub(crate) fn move_dual(search: &mut Search, v: VertexId, d: i64)
     requires sound { IsSound search.old }
-    requires begun { IsBegun (state_of search.old) search.old.start }
+    requires started { IsBegun (state_of search.old) search.old.start }
     requires vertex { is_vertex search.old.graph.vertices v ≡ true }
-    requires can { CanMove (state_of search.old) search.old.start v d }
+    requires possible { CanMove (state_of search.old) search.old.start v d }
     ensures sound { IsSound search.new }
-    ensures begun { IsBegun (state_of search.new) search.new.start }
+    ensures started { IsBegun (state_of search.new) search.new.start }
     ensures duals { dual_at search.new.arena.duals
         ≡ put (dual_at search.old.arena.duals) v (dual_at search.old.arena.duals v +ℤ d) }
     ensures exposed { exposed_count (state_of search.new) ≡ exposed_count (state_of search.old) }
-    ensures rest { search.new
+    ensures frame { search.new
         ≡ record search.old { arena = record search.old.arena { duals = search.new.arena.duals } } }
 {
     search

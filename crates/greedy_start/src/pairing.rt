@@ -4,7 +4,7 @@ ghost use Rattle.graph_theory.specs.Graph.{IsEdgeNumber, edge_of, edges_around, 
 ghost use Rattle.blossom_arena.specs.Family.{is_vertex};
 ghost use Rattle.alt_forest.specs.State.{IsExposed, IsTight, slack_of};
 ghost use Rattle.alt_forest.specs.Searches.{IsSound, state_of};
-ghost use Rattle.search_lists.specs.IncidentEdges.{IsIncidentEdge};
+ghost use Rattle.search_tables.specs.IncidentEdges.{IsIncidentEdge};
 ghost use Rattle.alt_forest.specs.Counts.{exposed_count, is_exposed};
 ghost use Rattle.greedy_start.specs.Starts.{IsBegun, CanPair, IsAbove, IsRise, JoinsExposed};
 ghost use Rattle.greedy_start.specs.Sweeps.{IsFirstExposed};
@@ -29,7 +29,7 @@ struct Rise {
 /// The slack of an edge at a vertex, and the edge itself if it leads to an exposed vertex.
 fn rise_by(search: &Search, v: VertexId, incident: &IncidentEdge) -> Rise
     requires sound { IsSound search.now }
-    requires begun { IsBegun (state_of search.now) search.now.start }
+    requires started { IsBegun (state_of search.now) search.now.start }
     requires vertex { is_vertex search.now.graph.vertices v ≡ true }
     requires incident { IsIncidentEdge search.now.graph v incident.now }
     ensures rise { IsRise (state_of search.now) v result.by result.mate }
@@ -81,14 +81,14 @@ fn is_last(rise: &Rise) -> bool
 /// read after a tight one to an exposed vertex.
 fn least_rise<L: Ledger>(search: &Search, v: VertexId, steps: &mut Steps<L>) -> Rise
     requires sound { IsSound search.now }
-    requires begun { IsBegun (state_of search.now) search.now.start }
+    requires started { IsBegun (state_of search.now) search.now.start }
     requires vertex { is_vertex search.now.graph.vertices v ≡ true }
     ensures rise { IsRise (state_of search.now) v result.by result.mate }
     ensures none { edges_around search.now.graph v ≡ [] → result.by ≡ pos 0 }
     ensures above { (e : ℕ) → IsEdgeNumber search.now.graph e
         → touches (edge_of search.now.graph e) v ≡ true
         → IsAbove (state_of search.now) v result.by result.mate e }
-    ensures looks { steps.new ≡ steps.old + length (edges_around search.now.graph v) }
+    ensures inspections { steps.new ≡ steps.old + length (edges_around search.now.graph v) }
 {
     let incidence = search.incidence.at(v, steps);
     if incidence.is_empty() {
@@ -109,11 +109,11 @@ fn least_rise<L: Ledger>(search: &Search, v: VertexId, steps: &mut Steps<L>) -> 
 /// at most.
 fn start_at<L: Ledger>(search: &mut Search, v: VertexId, steps: &mut Steps<L>)
     requires sound { IsSound search.old }
-    requires begun { IsBegun (state_of search.old) search.old.start }
+    requires started { IsBegun (state_of search.old) search.old.start }
     requires vertex { is_vertex search.old.graph.vertices v ≡ true }
     ensures sound { IsSound search.new }
-    ensures begun { IsBegun (state_of search.new) search.new.start }
-    ensures rest { search.new
+    ensures started { IsBegun (state_of search.new) search.new.start }
+    ensures frame { search.new
         ≡ record search.old {
           arena = record search.old.arena { duals = search.new.arena.duals };
           mates = search.new.mates;
@@ -123,7 +123,7 @@ fn start_at<L: Ledger>(search: &mut Search, v: VertexId, steps: &mut Steps<L>)
     ensures others { (e : ℕ) → touches (edge_of search.old.graph e) v ≡ false
         → JoinsExposed (state_of search.new) e → JoinsExposed (state_of search.old) e }
     ensures exposed { exposed_count (state_of search.new) ≤ exposed_count (state_of search.old) }
-    ensures still { is_exposed (state_of search.old) v ≡ false → search.new ≡ search.old }
+    ensures unchanged { is_exposed (state_of search.old) v ≡ false → search.new ≡ search.old }
     ensures exact { steps.new ≡ steps.old + (if is_exposed (state_of search.old) v
         then length (edges_around search.old.graph v) else 0) }
 {
@@ -140,16 +140,16 @@ fn start_at<L: Ledger>(search: &mut Search, v: VertexId, steps: &mut Steps<L>)
 /// Matches the two ends of a tight edge, both of which are exposed.
 pub(crate) fn pair(search: &mut Search, e: EdgeId)
     requires sound { IsSound search.old }
-    requires begun { IsBegun (state_of search.old) search.old.start }
+    requires started { IsBegun (state_of search.old) search.old.start }
     requires tight { IsTight (state_of search.old) e }
     requires u { IsExposed (state_of search.old) (edge_of search.old.graph e).u }
     requires v { IsExposed (state_of search.old) (edge_of search.old.graph e).v }
     ensures sound { IsSound search.new }
-    ensures begun { IsBegun (state_of search.new) search.new.start }
+    ensures started { IsBegun (state_of search.new) search.new.start }
     ensures free { (a : ℕ) → IsExposed (state_of search.new) a → IsExposed (state_of search.old) a
         × (a ≢ (edge_of search.old.graph e).u) × (a ≢ (edge_of search.old.graph e).v) }
     ensures exposed { exposed_count (state_of search.new) ≤ exposed_count (state_of search.old) }
-    ensures rest { search.new ≡ record search.old { mates = search.new.mates } }
+    ensures frame { search.new ≡ record search.old { mates = search.new.mates } }
 {
     set_ends(search, e, &Some(e));
 }
@@ -158,10 +158,10 @@ pub(crate) fn pair(search: &mut Search, e: EdgeId)
 /// it can be.
 pub fn start_all<L: Ledger>(search: &mut Search, steps: &mut Steps<L>)
     requires sound { IsSound search.old }
-    requires begun { IsBegun (state_of search.old) search.old.start }
+    requires started { IsBegun (state_of search.old) search.old.start }
     ensures sound { IsSound search.new }
-    ensures begun { IsBegun (state_of search.new) search.new.start }
-    ensures rest { search.new
+    ensures started { IsBegun (state_of search.new) search.new.start }
+    ensures frame { search.new
         ≡ record search.old {
           arena = record search.old.arena { duals = search.new.arena.duals };
           mates = search.new.mates;
@@ -171,7 +171,7 @@ pub fn start_all<L: Ledger>(search: &mut Search, steps: &mut Steps<L>)
     // vertex at least are counted.
     ensures maximal { (e : ℕ) → JoinsExposed (state_of search.new) e → ⊥ }
     ensures exposed { exposed_count (state_of search.new) ≤ exposed_count (state_of search.old) }
-    ensures looks { steps.new ≤ steps.old + 2 * length search.old.graph.edges }
+    ensures inspections { steps.new ≤ steps.old + 2 * length search.old.graph.edges }
     ensures grows { steps.old ≤ steps.new }
     ensures made { (v : ℕ) → IsFirstExposed (state_of search.old) v
         → steps.old + length (edges_around search.old.graph v) ≤ steps.new }

@@ -4,7 +4,7 @@ ghost use Rattle.graph_theory.specs.Graph.{edges_around};
 ghost use Rattle.blossom_arena.specs.Family.{is_vertex};
 ghost use Rattle.alt_forest.specs.State.{slack_of};
 ghost use Rattle.alt_forest.specs.Searches.{IsSound, state_of};
-ghost use Rattle.search_lists.specs.IncidentEdges.{IsIncidentEdge};
+ghost use Rattle.search_tables.specs.IncidentEdges.{IsIncidentEdge};
 ghost use Rattle.greedy_start.specs.Starts.{IsBegun};
 ghost use Rattle.greedy_start.specs.Sweeps.{IsReach, IsBehind, IsLead};
 
@@ -32,7 +32,7 @@ pub(crate) struct Lead {
 /// An edge at a vertex with its slack.
 fn reach_by(search: &Search, v: VertexId, incident: &IncidentEdge) -> Reach
     requires sound { IsSound search.now }
-    requires begun { IsBegun (state_of search.now) search.now.start }
+    requires started { IsBegun (state_of search.now) search.now.start }
     requires vertex { is_vertex search.now.graph.vertices v ≡ true }
     requires incident { IsIncidentEdge search.now.graph v incident.now }
     ensures reach { IsReach search.now.graph (slack_of (state_of search.now)) v result }
@@ -91,10 +91,10 @@ fn with_one(lead: &Lead, reach: &Reach) -> Lead
 /// edges.
 pub(crate) fn lead_at<L: Ledger>(search: &Search, v: VertexId, steps: &mut Steps<L>) -> Option<Lead>
     requires sound { IsSound search.now }
-    requires begun { IsBegun (state_of search.now) search.now.start }
+    requires started { IsBegun (state_of search.now) search.now.start }
     requires vertex { is_vertex search.now.graph.vertices v ≡ true }
     ensures lead { ForSome result (IsLead search.now.graph (slack_of (state_of search.now)) v) }
-    ensures looks { steps.new ≡ steps.old + length (edges_around search.now.graph v) }
+    ensures inspections { steps.new ≡ steps.old + length (edges_around search.now.graph v) }
 {
     let incidence = search.incidence.at(v, steps);
     if incidence.is_empty() {

@@ -5,7 +5,7 @@ ghost use Rattle.graph_theory.specs.Graph.{IsWeight};
 ghost use Rattle.blossom_arena.specs.Family.{dual_at, is_vertex};
 ghost use Rattle.alt_forest.specs.State.{slack_of};
 ghost use Rattle.alt_forest.specs.Searches.{IsSound, state_of};
-ghost use Rattle.search_lists.specs.IncidentEdges.{IsIncidentEdge};
+ghost use Rattle.search_tables.specs.IncidentEdges.{IsIncidentEdge};
 ghost use Rattle.greedy_start.specs.Starts.{IsBegun};
 
 use alt_forest::{IncidentEdge, Search, Weights};
@@ -15,7 +15,7 @@ use blossom_arena::NodeId;
 /// The dual of a vertex.
 pub(crate) fn vertex_dual(search: &Search, v: VertexId) -> i64
     requires sound { IsSound search.now }
-    requires begun { IsBegun (state_of search.now) search.now.start }
+    requires started { IsBegun (state_of search.now) search.now.start }
     requires vertex { is_vertex search.now.graph.vertices v ≡ true }
     ensures dual { result ≡ dual_at search.now.arena.duals v }
     ensures low { neg_ℤ WEIGHT_LIMIT ≤ℤ result }
@@ -27,7 +27,7 @@ pub(crate) fn vertex_dual(search: &Search, v: VertexId) -> i64
 /// The duals of two vertices, added up.
 fn both_duals(search: &Search, u: VertexId, v: VertexId) -> i64
     requires sound { IsSound search.now }
-    requires begun { IsBegun (state_of search.now) search.now.start }
+    requires started { IsBegun (state_of search.now) search.now.start }
     requires u { is_vertex search.now.graph.vertices u ≡ true }
     requires v { is_vertex search.now.graph.vertices v ≡ true }
     ensures sum { result ≡ dual_at search.now.arena.duals u +ℤ dual_at search.now.arena.duals v }
@@ -51,7 +51,7 @@ fn twice(weight: i64) -> i64
 /// without weights, less the duals of its ends.
 pub(crate) fn slack_at(search: &Search, v: VertexId, incident: &IncidentEdge) -> i64
     requires sound { IsSound search.now }
-    requires begun { IsBegun (state_of search.now) search.now.start }
+    requires started { IsBegun (state_of search.now) search.now.start }
     requires vertex { is_vertex search.now.graph.vertices v ≡ true }
     requires incident { IsIncidentEdge search.now.graph v incident.now }
     ensures slack { result ≡ slack_of (state_of search.now) incident.now.edge }

@@ -25,7 +25,7 @@ use std::sync::ledger::Ledger;
 /// fall.
 fn fall_for(search: &Search, v: VertexId, lead: &Lead) -> Option<i64>
     requires sound { IsSound search.now }
-    requires begun { IsBegun (state_of search.now) search.now.start }
+    requires started { IsBegun (state_of search.now) search.now.start }
     requires vertex { is_vertex search.now.graph.vertices v ≡ true }
     requires lead { IsLead search.now.graph (slack_of (state_of search.now)) v lead.now }
     ensures fall { ForSome result
@@ -53,7 +53,7 @@ fn fall_for(search: &Search, v: VertexId, lead: &Lead) -> Option<i64>
 /// it has one: the dual there falls, and that of the vertex rises by the slack and as much more.
 fn take_partner(search: &mut Search, v: VertexId, lead: &Lead, fall: i64)
     requires sound { IsSound search.old }
-    requires begun { IsBegun (state_of search.old) search.old.start }
+    requires started { IsBegun (state_of search.old) search.old.start }
     requires weights { search.old.weights ≡ Given }
     requires vertex { is_vertex search.old.graph.vertices v ≡ true }
     requires exposed { IsExposed (state_of search.old) v }
@@ -61,8 +61,8 @@ fn take_partner(search: &mut Search, v: VertexId, lead: &Lead, fall: i64)
     requires fall { CanTake (dual_at search.old.arena.duals lead.now.least.far) search.old.start
         lead.now fall }
     ensures sound { IsSound search.new }
-    ensures begun { IsBegun (state_of search.new) search.new.start }
-    ensures rest { search.new
+    ensures started { IsBegun (state_of search.new) search.new.start }
+    ensures frame { search.new
         ≡ record search.old {
           arena = record search.old.arena { duals = search.new.arena.duals };
           mates = search.new.mates;
@@ -81,17 +81,17 @@ fn take_partner(search: &mut Search, v: VertexId, lead: &Lead, fall: i64)
 /// only rises by the least slack. It looks at each of its edges once.
 fn sweep_at<L: Ledger>(search: &mut Search, v: VertexId, steps: &mut Steps<L>)
     requires sound { IsSound search.old }
-    requires begun { IsBegun (state_of search.old) search.old.start }
+    requires started { IsBegun (state_of search.old) search.old.start }
     requires weights { search.old.weights ≡ Given }
     requires vertex { is_vertex search.old.graph.vertices v ≡ true }
     ensures sound { IsSound search.new }
-    ensures begun { IsBegun (state_of search.new) search.new.start }
-    ensures rest { search.new
+    ensures started { IsBegun (state_of search.new) search.new.start }
+    ensures frame { search.new
         ≡ record search.old {
           arena = record search.old.arena { duals = search.new.arena.duals };
           mates = search.new.mates;
         } }
-    ensures still { is_exposed (state_of search.old) v ≡ false → search.new ≡ search.old }
+    ensures unchanged { is_exposed (state_of search.old) v ≡ false → search.new ≡ search.old }
     ensures exact { steps.new ≡ steps.old + (if is_exposed (state_of search.old) v
         then length (edges_around search.old.graph v) else 0) }
 {
@@ -111,16 +111,16 @@ fn sweep_at<L: Ledger>(search: &mut Search, v: VertexId, steps: &mut Steps<L>)
 /// One sweep: each vertex in turn.
 fn sweep_all<L: Ledger>(search: &mut Search, steps: &mut Steps<L>)
     requires sound { IsSound search.old }
-    requires begun { IsBegun (state_of search.old) search.old.start }
+    requires started { IsBegun (state_of search.old) search.old.start }
     requires weights { search.old.weights ≡ Given }
     ensures sound { IsSound search.new }
-    ensures begun { IsBegun (state_of search.new) search.new.start }
-    ensures rest { search.new
+    ensures started { IsBegun (state_of search.new) search.new.start }
+    ensures frame { search.new
         ≡ record search.old {
           arena = record search.old.arena { duals = search.new.arena.duals };
           mates = search.new.mates;
         } }
-    ensures looks { steps.new ≤ steps.old + 2 * length search.old.graph.edges }
+    ensures inspections { steps.new ≤ steps.old + 2 * length search.old.graph.edges }
     ensures grows { steps.old ≤ steps.new }
     ensures made { (v : ℕ) → IsFirstExposed (state_of search.old) v
         → steps.old + length (edges_around search.old.graph v) ≤ steps.new }
@@ -137,17 +137,17 @@ fn sweep_all<L: Ledger>(search: &mut Search, steps: &mut Steps<L>)
 /// search needs so few steps then that the looks of sweeps would be a good part of them.
 pub fn sweep_twice<L: Ledger>(search: &mut Search, steps: &mut Steps<L>)
     requires sound { IsSound search.old }
-    requires begun { IsBegun (state_of search.old) search.old.start }
+    requires started { IsBegun (state_of search.old) search.old.start }
     requires maximal { (e : ℕ) → JoinsExposed (state_of search.old) e → ⊥ }
     ensures sound { IsSound search.new }
-    ensures begun { IsBegun (state_of search.new) search.new.start }
-    ensures rest { search.new
+    ensures started { IsBegun (state_of search.new) search.new.start }
+    ensures frame { search.new
         ≡ record search.old {
           arena = record search.old.arena { duals = search.new.arena.duals };
           mates = search.new.mates;
         } }
     ensures maximal { (e : ℕ) → JoinsExposed (state_of search.new) e → ⊥ }
-    ensures looks { steps.new
+    ensures inspections { steps.new
         ≤ steps.old + sweep_looks search.old.graph.vertices * length search.old.graph.edges }
     ensures flat { search.old.weights ≡ Zero → steps.new ≡ steps.old }
 

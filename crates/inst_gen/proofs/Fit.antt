@@ -4,8 +4,8 @@ use Rattle.mb_problem.proofs.Common.{refl, ap, ap₂, sym, subst, ◌∙◌, inl
 use Rattle.mb_problem.proofs.Common.{HasEnds, HasWeightsBy, IsReady, ends-needed, value_of, vertices}
 use Rattle.mb_problem.specs.declared.instance.InstanceEdge.{InstanceEdge}
 use Rattle.mb_problem.specs.declared.kind.Kind.{Kind}
-use Rattle.mb_problem.specs.declared.kind.Need.{Need}
-use Rattle.mb_problem.specs.declared.kind.Need.TheVariants.{Unrestricted, WeightsFromZero, Ends, EndsAndWeightsFromZero}
+use Rattle.mb_problem.specs.declared.kind.Precondition.{Precondition}
+use Rattle.mb_problem.specs.declared.kind.Precondition.TheVariants.{Unrestricted, WeightsFromZero, Ends, EndsAndWeightsFromZero}
 use Rattle.mb_problem.specs.declared.kind.VertexValue.{VertexValue}
 use Rattle.mb_problem.specs.declared.kind.VertexValue.TheVariants.{End}
 use Rattle.gadget_base.proofs.Blocks.{tabled-length, tabled-at, All-tabled}
@@ -35,11 +35,11 @@ weights_from_zero kind start n m least =
     let s = state_after start (value_draws kind n) in
     All-tabled (λ e. pos 0 ≤ℤ e.w) (λ k. edge_at kind (state_after s (edge_draws kind n k)) n k) m (λ k below. edge_from_zero kind (state_after s (edge_draws kind n k)) n k least)
 
-weights_by : (need : Need) (kind : Kind) (start n m : ℕ) → need_of kind ≡ need → HasWeightsBy need (made kind start n m)
+weights_by : (need : Precondition) (kind : Kind) (start n m : ℕ) → need_of kind ≡ need → HasWeightsBy need (made kind start n m)
 weights_by Unrestricted kind start n m is = tt
-weights_by WeightsFromZero kind start n m is = weights_from_zero kind start n m (ap (λ (need : Need). from_zero_by need (asks_conservative kind)) is)
+weights_by WeightsFromZero kind start n m is = weights_from_zero kind start n m (ap (λ (need : Precondition). from_zero_by need (asks_conservative kind)) is)
 weights_by Ends kind start n m is = tt
-weights_by EndsAndWeightsFromZero kind start n m is = weights_from_zero kind start n m (ap (λ (need : Need). from_zero_by need (asks_conservative kind)) is)
+weights_by EndsAndWeightsFromZero kind start n m is = weights_from_zero kind start n m (ap (λ (need : Precondition). from_zero_by need (asks_conservative kind)) is)
 
 -- ---- ends: the first vertex and the last have the value 1
 

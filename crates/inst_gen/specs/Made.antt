@@ -2,9 +2,10 @@
 use Rattle.std.specs.Prelude.{ℕ, Bool, true, ◌+◌, ◌-◌, ◌*◌, ◌||◌, ◌==◌, nat_lt, nat_le}
 use Rattle.std.specs.Prelude.{if◌then◌else◌, ℤ, pos, ◌-ℤ◌, List, replicate, Option, None, Some}
 use Rattle.mb_problem.specs.declared.kind.Kind.{Kind}
-use Rattle.mb_problem.specs.declared.kind.Need.{Need}
-use Rattle.mb_problem.specs.declared.kind.Need.TheVariants.{Unrestricted, WeightsFromZero, Ends}
-use Rattle.mb_problem.specs.declared.kind.Need.TheVariants.{EndsAndWeightsFromZero}
+use Rattle.mb_problem.specs.declared.kind.Precondition.{Precondition}
+use Rattle.mb_problem.specs.declared.kind.Precondition.TheVariants.{Unrestricted, WeightsFromZero}
+use Rattle.mb_problem.specs.declared.kind.Precondition.TheVariants.{Ends}
+use Rattle.mb_problem.specs.declared.kind.Precondition.TheVariants.{EndsAndWeightsFromZero}
 use Rattle.mb_problem.specs.declared.kind.VertexValue.{VertexValue}
 use Rattle.mb_problem.specs.declared.kind.VertexValue.TheVariants.{Unused, Degree, Parity, End}
 use Rattle.mb_problem.specs.declared.kind.VertexValue.TheVariants.{Bounds}
@@ -47,7 +48,7 @@ value_at kind s n k = value_by (vertex_value_of kind) s n k
 
 -- no negative weight is drawn if the kind asks for such an instance, or that no circuit weighs less
 -- than 0
-abbrev pub from_zero_by : Need → Bool → Bool
+abbrev pub from_zero_by : Precondition → Bool → Bool
 from_zero_by Unrestricted conservative = conservative
 from_zero_by WeightsFromZero conservative = true
 from_zero_by Ends conservative = conservative

@@ -7,7 +7,7 @@ ghost use Rattle.inst_gen.specs.Made.{edge_at, edges_from};
 use crate::draws::Draws;
 use crate::limits::{MADE_CAPACITY_LIMIT, MADE_WEIGHT_LIMIT};
 use mb_base::{OutOfMemory, VertexId};
-use mb_problem::{EDGE_LIMIT, EdgeUse, InstanceEdge, Kind, Need, VERTEX_LIMIT};
+use mb_problem::{EDGE_LIMIT, EdgeUse, InstanceEdge, Kind, Precondition, VERTEX_LIMIT};
 use std::alloc::Global;
 
 /// Whether no negative weight is drawn.
@@ -15,10 +15,10 @@ fn is_from_zero(kind: Kind) -> bool
     ensures { result ≡ is_from_zero kind }
 {
     match kind.needs() {
-        Need::Unrestricted => kind.asks_conservative(),
-        Need::WeightsFromZero => true,
-        Need::Ends => kind.asks_conservative(),
-        Need::EndsAndWeightsFromZero => true,
+        Precondition::Unrestricted => kind.asks_conservative(),
+        Precondition::WeightsFromZero => true,
+        Precondition::Ends => kind.asks_conservative(),
+        Precondition::EndsAndWeightsFromZero => true,
     }
 }
 
@@ -74,7 +74,7 @@ fn other(u: u32, number: u32) -> u32
 /// The edge at place k.
 fn edge(kind: Kind, n: u32, k: u32, draws: &mut Draws) -> InstanceEdge
     requires some { 2 ≤ n }
-    requires few { n ≤ VERTEX_LIMIT }
+    requires size_limit { n ≤ VERTEX_LIMIT }
     requires place { k < EDGE_LIMIT }
     ensures edge { result ≡ edge_at kind draws.old.state n k }
     ensures state { draws.new.state

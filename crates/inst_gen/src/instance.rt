@@ -27,7 +27,7 @@ pub fn make(alloc: Global, kind: Kind, start: u64, n: u32, m: u32) -> Result<Ins
 
     // The instance of the stated rule, which is a well-formed instance of its kind.
     ensures made { IfOk result (λ i. i ≡ made kind start n m) }
-    ensures ready { IfOk result (IsReady kind) }
+    ensures well_formed { IfOk result (IsReady kind) }
     ensures network { IfOk result IsNetwork }
 {
     let mut draws = Draws::new(start);

@@ -12,7 +12,8 @@ use Rattle.join_check.proofs.Listed.{listed-small}
 use Rattle.join_check.proofs.LevelFacts.{forest-of, placed-of, odd-of, wide-of}
 use Rattle.join_check.proofs.Leasts.{least-join}
 
-pub join-of : (i : Network) (odd : ℕ → ℕ) (es ds odds : List ℕ) (m : ℕ) → IsStrictlyIncreasing es → All (λ e. (1 ≤ e) × (e ≤ m)) es → m ≡ length i.edges → AreDegrees i (listed_counts es m) ds
+pub join-of : (i : Network) (odd : ℕ → ℕ) (es ds odds : List ℕ) (m : ℕ) → IsStrictlyIncreasing es → All (λ e. (1 ≤ e) × (e ≤ m)) es → m ≡ length i.edges
+    → AreDegrees i (listed_counts es m) ds
     → ((j : ℕ) → j < length ds → slice_index ds j % 2 ≡ slice_index odds j) → ((j : ℕ) → j < vertices i → slice_index odds j ≡ odd (j + 1)) → ListsJoin i odd es
 join-of i odd es ds odds m ascending range count are have each =
     let few : ℕ → Type 0 = λ x. x ≤ 1 in
@@ -21,7 +22,8 @@ join-of i odd es ds odds m ascending range count are have each =
       in_range = λ k d b. (let is = range k d b in (is.0, omega (arith, is.1, count, edges-count i)));
       join = record {
         one_each = listed-length es (length i.edges);
-        at_most_once = λ k d b. subst few (get_or_default (listed_counts es (length i.edges)) k 0 d b) (listed-small es (length i.edges) k (omega (arith, b, listed-length es (length i.edges))));
+        at_most_once = λ k d b. subst few (get_or_default (listed_counts es (length i.edges)) k 0 d b)
+            (listed-small es (length i.edges) k (omega (arith, b, listed-length es (length i.edges))));
         degrees = λ v low high.
             let back : v - 1 + 1 ≡ v = omega (arith, low) in
             let below : v - 1 < vertices i = omega (arith, low, high) in

@@ -40,12 +40,14 @@ one-most false = omega arith
 
 pub held-most : (flags : List Bool) (nodes : List ℕ) (x n : ℕ) → held_before flags nodes x n ≤ n
 held-most flags nodes x n =
-    let most = sum_to-most (λ j. cond (slice_index_or flags j false && ltb (slice_index nodes j) x) 1 0) 1 n (λ j _. one-most (slice_index_or flags j false && ltb (slice_index nodes j) x)) in
+    let most = sum_to-most (λ j. cond (slice_index_or flags j false && ltb (slice_index nodes j) x) 1 0) 1 n
+    (λ j _. one-most (slice_index_or flags j false && ltb (slice_index nodes j) x)) in
     omega (arith, most)
 
 pub at-most : (flags : List Bool) (nodes : List ℕ) (x n : ℕ) → held_at flags nodes x n ≤ n
 at-most flags nodes x n =
-    let most = sum_to-most (λ j. cond (slice_index_or flags j false && eqb (slice_index nodes j) x) 1 0) 1 n (λ j _. one-most (slice_index_or flags j false && eqb (slice_index nodes j) x)) in
+    let most = sum_to-most (λ j. cond (slice_index_or flags j false && eqb (slice_index nodes j) x) 1 0) 1 n
+    (λ j _. one-most (slice_index_or flags j false && eqb (slice_index nodes j) x)) in
     omega (arith, most)
 
 -- those before the end of node b: those before it begins, and those that it holds

@@ -142,7 +142,8 @@ lengths-most parity i edges f counts network proves join =
     let odd : ℕ → ℕ = odd_at parity i in
     let ends = (network-graph i network).ends in
     let size : length (graph_of i).edges ≡ length i.edges = edges-count i in
-    packed (graph_of i) (counts_turned (is_turned i) counts (length (graph_of i).edges)) (turned_odd i odd) (under_at f) (len_of f) (node_count f) (λ k. nat_abs (edge_at (graph_of i) k).w) ends
+    packed (graph_of i) (counts_turned (is_turned i) counts (length (graph_of i).edges)) (turned_odd i odd) (under_at f) (len_of f) (node_count f)
+    (λ k. nat_abs (edge_at (graph_of i) k).w) ends
     (λ v low high. odd-degrees i odd counts v (λ k b. once i counts join.one_each join.at_most_once k (omega (arith, b, size))) (join.degrees v low high))
     (λ k b.
     let within : IsEdgeWithin (vertices i) (edge_at (graph_of i) k) = edge_at-within (graph_of i) k ends b in

@@ -32,7 +32,7 @@ sum-grows f m (suc n) h low =
 -- the first lengths together, and those of them that pass a test, stay within the limit
 pub sum-small : (lengths : List ℤ) (m : ℕ) → AreLengths lengths → m ≤ length lengths → IsLength (int_sum_to (at lengths) m)
 sum-small lengths m are h =
-    (sum-low (at lengths) m (λ b low. are.from_zero b (omega arith)), omega (arith, ints, sum-grows (at lengths) m (length lengths) h are.from_zero, are.small))
+    (sum-low (at lengths) m (λ b low. are.from_zero b (omega arith)), omega (arith, ints, sum-grows (at lengths) m (length lengths) h are.from_zero, are.value_limit))
 
 pub part-small : (lengths : List ℤ) (t : ℕ → Bool) (m : ℕ) → AreLengths lengths → m ≤ length lengths → IsLength (int_sum_to (λ b. cond (t b) (at lengths b) (pos 0)) m)
 part-small lengths t m are h =
@@ -107,14 +107,38 @@ after-off p b x h = one-off (ltb p x && leb x b) (and_right (ltb p x) (leb x b) 
 next-tests : (p b x : ℕ) → p < b → cond {A = ℕ} (ltb p (x + 1) && leb (x + 1) b) 1 0 + cond (eqb b x) 1 0 ≡ cond (ltb p x && leb x b) 1 0 + cond (eqb p x) 1 0
 next-tests p b x h =
     elim (cases_lt x p) [
-      | inl early ↦ omega (arith, before-off p b (x + 1) (omega arith), one-off (eqb b x) (ne_eqb b x (λ e. omega arith)), before-off p b x (omega arith), one-off (eqb p x) (ne_eqb p x (λ e. omega arith)))
+      | inl early ↦ omega (
+        arith,
+        before-off p b (x + 1) (omega arith),
+        one-off (eqb b x) (ne_eqb b x (λ e. omega arith)),
+        before-off p b x (omega arith),
+        one-off (eqb p x) (ne_eqb p x (λ e. omega arith)),
+      )
       | inr late ↦ elim (cases_lt b x) [
-        | inl past ↦ omega (arith, after-off p b (x + 1) (omega arith), one-off (eqb b x) (ne_eqb b x (λ e. omega arith)), after-off p b x past, one-off (eqb p x) (ne_eqb p x (λ e. omega arith)))
+        | inl past ↦ omega (
+          arith,
+          after-off p b (x + 1) (omega arith),
+          one-off (eqb b x) (ne_eqb b x (λ e. omega arith)),
+          after-off p b x past,
+          one-off (eqb p x) (ne_eqb p x (λ e. omega arith)),
+        )
         | inr within ↦ elim (cases_eq b x) [
-          | inl e ↦ omega (arith, after-off p b (x + 1) (omega arith), one-on (eqb b x) (eq-eqb b x e), inside-on p b x (omega arith) within, one-off (eqb p x) (ne_eqb p x (λ s. omega arith)))
+          | inl e ↦ omega (
+            arith,
+            after-off p b (x + 1) (omega arith),
+            one-on (eqb b x) (eq-eqb b x e),
+            inside-on p b x (omega arith) within,
+            one-off (eqb p x) (ne_eqb p x (λ s. omega arith)),
+          )
           | inr d ↦ elim (cases_eq p x) [
             | inl e ↦ omega (arith, inside-on p b (x + 1) (omega arith) (omega arith), one-off (eqb b x) (ne_eqb b x d), before-off p b x (omega arith), one-on (eqb p x) (eq-eqb p x e))
-            | inr o ↦ omega (arith, inside-on p b (x + 1) (omega arith) (omega arith), one-off (eqb b x) (ne_eqb b x d), inside-on p b x (omega arith) within, one-off (eqb p x) (ne_eqb p x o))
+            | inr o ↦ omega (
+              arith,
+              inside-on p b (x + 1) (omega arith) (omega arith),
+              one-off (eqb b x) (ne_eqb b x d),
+              inside-on p b x (omega arith) within,
+              one-off (eqb p x) (ne_eqb p x o),
+            )
           ]
         ]
       ]

@@ -1,5 +1,6 @@
 -- The parities of vertices after the turn of negative edges.
-use Rattle.mb_problem.proofs.Common.{◌≡◌, ℕ, ◌+◌, ◌*◌, ◌<◌, Bool, true, false, cond, ap, ◌∙◌, arith, List, length, slice_index, sum_to, sum_to-same, edge_at, ends_at, graph_of, vertices, Network, edges-count}
+use Rattle.mb_problem.proofs.Common.{◌≡◌, ℕ, ◌+◌, ◌*◌, ◌<◌, Bool, true, false, cond, ap, ◌∙◌, arith, List, length, slice_index, sum_to, sum_to-same, edge_at, ends_at, graph_of, vertices}
+use Rattle.mb_problem.proofs.Common.{Network, edges-count}
 use Rattle.mb_problem.specs.Degrees.{AreDegrees}
 use Rattle.join_check.specs.Forests.{is_turned, turned_ends}
 

@@ -18,7 +18,7 @@ at xs k = slice_index_or xs k (pos 0)
 pub record AreLengths (lengths : List ℤ) : Type 0 where
   pub outside : at lengths 0 ≡ pos 0
   pub from_zero : (b : ℕ) → b < length lengths → pos 0 ≤ℤ at lengths b
-  pub small : int_sum_to (at lengths) (length lengths) ≤ℤ LENGTH_LIMIT
+  pub value_limit : int_sum_to (at lengths) (length lengths) ≤ℤ LENGTH_LIMIT
 
 -- the first n nodes stand in postorder
 pub record ArePostorder (befores : List ℕ) (n : ℕ) : Type 0 where
@@ -51,7 +51,7 @@ pub record AreStarts (lengths : List ℤ) (befores : List ℕ) (starts : List �
 pub record AreTops (lengths : List ℤ) (befores : List ℕ) (tops : List ℤ) : Type 0 where
   pub one_each : length tops ≡ length lengths
   pub each : (x : ℕ) → x < length lengths → at tops x ≡ topped lengths befores x
-  pub small : (x : ℕ) → x < length lengths → IsLength (at tops x)
+  pub value_limit : (x : ℕ) → x < length lengths → IsLength (at tops x)
 
 -- a place within a node, at its top if the vertex is odd
 pub record HasPlace (lengths : List ℤ) (node : ℕ) (height : ℤ) (odd : Bool) : Type 0 where
@@ -97,7 +97,7 @@ pub record AreDepths (lengths tops : List ℤ) (nodes : List ℕ) (heights depth
   pub one_each : length depths ≡ length nodes
   pub each : (j : ℕ) → j < length nodes → at depths j ≡ at tops (slice_index nodes j)
       -ℤ at lengths (slice_index nodes j) +ℤ at heights j
-  pub small : (j : ℕ) → j < length nodes → IsLength (at depths j)
+  pub value_limit : (j : ℕ) → j < length nodes → IsLength (at depths j)
 
 -- an edge is at least as long as the way between the places of its ends
 pub record IsWideBy (tops : List ℤ) (befores nodes : List ℕ) (depths : List ℤ) (e : Edge) (a : ℕ)

@@ -8,7 +8,7 @@ use std::alloc::Global;
 
 /// Counts the odd vertices at each node. At the start all are 0.
 fn count_held(held: &mut [usize], nodes: &[u32], odd: &[bool])
-    requires few { length nodes.now < 2 ^ 32 }
+    requires size_limit { length nodes.now < 2 ^ 32 }
     requires odd { length odd.now ≡ length nodes.now }
     requires nodes { (j : ℕ) → j < length nodes.now → slice_index nodes.now j
         < length held.old }
@@ -24,7 +24,7 @@ fn count_held(held: &mut [usize], nodes: &[u32], odd: &[bool])
 
 /// Adds to the count at each node those before it.
 fn add_before(held: &mut [usize], nodes: &[u32], odd: &[bool])
-    requires few { length nodes.now < 2 ^ 32 }
+    requires size_limit { length nodes.now < 2 ^ 32 }
     requires counts { (x : ℕ) → slice_index held.old x
         ≡ held_at odd.now nodes.now x (length nodes.now) }
     ensures { AreHeld odd.now nodes.now (length held.old) held.new }
@@ -43,7 +43,7 @@ fn held_each(
     odd: &[bool],
     count: usize,
 ) -> Result<Vec<usize>, OutOfMemory>
-    requires few { length nodes.now < 2 ^ 32 }
+    requires size_limit { length nodes.now < 2 ^ 32 }
     requires odd { length odd.now ≡ length nodes.now }
     requires nodes { (j : ℕ) → j < length nodes.now → slice_index nodes.now j < count }
     ensures size { IfOk result (λ held. length held.items ≡ count) }
@@ -62,7 +62,7 @@ fn held_of(
     odd: &[bool],
     count: usize,
 ) -> Result<Vec<usize>, OutOfMemory>
-    requires few { length nodes.now < 2 ^ 32 }
+    requires size_limit { length nodes.now < 2 ^ 32 }
     requires odd { length odd.now ≡ length nodes.now }
     requires nodes { (j : ℕ) → j < length nodes.now → slice_index nodes.now j < count }
     ensures { IfOk result (λ held. AreHeld odd.now nodes.now count held.items) }
@@ -107,7 +107,7 @@ pub(crate) fn hold_odd(
     nodes: &[u32],
     odd: &[bool],
 ) -> Result<bool, OutOfMemory>
-    requires few { length nodes.now < 2 ^ 32 }
+    requires size_limit { length nodes.now < 2 ^ 32 }
     requires befores { length befores.now ≡ length lengths.now }
     requires odd { length odd.now ≡ length nodes.now }
     requires nodes { (j : ℕ) → j < length nodes.now → slice_index nodes.now j

@@ -48,7 +48,7 @@ fn depth_at(length: i64, top: i64, height: i64) -> i64
     requires high { height ≤ℤ length }
     requires above { length ≤ℤ top }
     ensures depth { result ≡ top -ℤ length +ℤ height }
-    ensures small { IsLength result }
+    ensures value_limit { IsLength result }
 {
     top - length + height
 }
@@ -61,7 +61,7 @@ fn fill_depths(depths: &mut [i64], lengths: &[i64], tops: &[i64], nodes: &[u32],
     requires places { (j : ℕ) → j < length nodes.now → HasPlace lengths.now
         (slice_index nodes.now j) (at heights.now j) false }
     requires above { (x : ℕ) → x < length lengths.now → at lengths.now x ≤ℤ at tops.now x }
-    requires small { (x : ℕ) → x < length lengths.now → IsLength (at tops.now x) }
+    requires value_limit { (x : ℕ) → x < length lengths.now → IsLength (at tops.now x) }
     ensures { AreDepths lengths.now tops.now nodes.now heights.now depths.new }
 {
     for vertex in 0..nodes.len() {
@@ -83,7 +83,7 @@ pub(crate) fn depths_of(
     requires places { (j : ℕ) → j < length nodes.now → HasPlace lengths.now
         (slice_index nodes.now j) (at heights.now j) false }
     requires above { (x : ℕ) → x < length lengths.now → at lengths.now x ≤ℤ at tops.now x }
-    requires small { (x : ℕ) → x < length lengths.now → IsLength (at tops.now x) }
+    requires value_limit { (x : ℕ) → x < length lengths.now → IsLength (at tops.now x) }
     ensures { IfOk result
         (λ depths. AreDepths lengths.now tops.now nodes.now heights.now depths.items) }
 {

@@ -53,7 +53,7 @@ fn is_forest(levels: &Levels) -> bool
 /// Whether each vertex has its place, and the nodes that have a length hold odd numbers of odd
 /// vertices.
 fn is_placed(alloc: Global, levels: &Levels, odd: &[bool]) -> Result<bool, OutOfMemory>
-    requires few { length levels.now.nodes < 2 ^ 32 }
+    requires size_limit { length levels.now.nodes < 2 ^ 32 }
     requires forest { IsSmallForest levels.now }
     requires heights { length levels.now.heights ≡ length levels.now.nodes }
     requires odd { length odd.now ≡ length levels.now.nodes }

@@ -132,8 +132,8 @@ two_added twos g e paired each few from to =
             let same : k ≡ twos = omega (arith, low, past) in
             ap (λ j. (edge_at (pushed g e) j).v) same ∙ ap (λ (x : Edge). x.v) last ∙ to ∙ (let y : 2 * twos + 2 ≡ 2 * k + 2 = omega (arith, same) in y)
       ];
-      plain = All-push (λ x. is_loop x ≡ false) g.edges e paired.plain (ne_eqb e.u e.v (λ same. absurd (omega (arith, same, from, to))));
-      few = omega (arith, size, each, few);
+      loopless = All-push (λ x. is_loop x ≡ false) g.edges e paired.loopless (ne_eqb e.u e.v (λ same. absurd (omega (arith, same, from, to))));
+      size_limit = omega (arith, size, each, few);
     }
 
 pub other_added : (twos : ℕ) (g : Multigraph) (e : Edge) → IsPairedUp twos g → length g.edges < GRAPH_EDGE_LIMIT → e.u < e.v → IsPairedUp twos (pushed g e)
@@ -144,8 +144,8 @@ other_added twos g e paired few differ =
       enough = omega (arith, size, enough);
       from = λ k low. ap (λ (x : Edge). x.u) (kept g e k (omega (arith, low, enough))) ∙ paired.from k low;
       to = λ k low. ap (λ (x : Edge). x.v) (kept g e k (omega (arith, low, enough))) ∙ paired.to k low;
-      plain = All-push (λ x. is_loop x ≡ false) g.edges e paired.plain (ne_eqb e.u e.v (λ same. absurd (omega (arith, same, differ))));
-      few = omega (arith, size, few);
+      loopless = All-push (λ x. is_loop x ≡ false) g.edges e paired.loopless (ne_eqb e.u e.v (λ same. absurd (omega (arith, same, differ))));
+      size_limit = omega (arith, size, few);
     }
 
 -- a graph without edges is paired up to none
@@ -154,6 +154,6 @@ none_paired g none = record {
   enough = omega arith;
   from = λ k low. absurd (omega (arith, low));
   to = λ k low. absurd (omega (arith, low));
-  plain = subst (All (λ x. is_loop x ≡ false)) (sym none) (λ k d low. absurd (omega (arith, low)));
-  few = omega (arith, ap length none);
+  loopless = subst (All (λ x. is_loop x ≡ false)) (sym none) (λ k d low. absurd (omega (arith, low)));
+  size_limit = omega (arith, ap length none);
 }

@@ -8,5 +8,5 @@ pub record IsPairedUp (twos : ℕ) (g : Multigraph) : Type 0 where
   pub enough : twos ≤ length g.edges
   pub from : (k : ℕ) → k < twos → (edge_at g k).u ≡ 2 * k + 1
   pub to : (k : ℕ) → k < twos → (edge_at g k).v ≡ 2 * k + 2
-  pub plain : HasNoLoop g
-  pub few : length g.edges ≤ GRAPH_EDGE_LIMIT
+  pub loopless : HasNoLoop g
+  pub size_limit : length g.edges ≤ GRAPH_EDGE_LIMIT

@@ -78,9 +78,9 @@ fn read_set(found: &mut Found, engine: &Engine, place: u32) -> Result<(), OutOfM
     Ok(())
 }
 
-/// Raises a negative dual to 0, and lowers that of the partner by as much, unless that would then be
-/// negative. If the pairs at the partner have all their lengths, the duals stay feasible, since no
-/// other leaf is nearer to the partner than by this one.
+/// Raises a negative dual to 0, and lowers that of the partner by as much, unless that would then
+/// be negative. If the pairs at the partner have all their lengths, the duals stay feasible, since
+/// no other leaf is nearer to the partner than by this one.
 fn raise_dual(found: &mut Found, leaf: u32) {
     let partner = item_at(&found.partners, leaf, 0);
     let dual = item_at(&found.duals, leaf, 0);

@@ -32,8 +32,8 @@ fn accepted(
 }
 
 /// Guesses a T-join of minimum weight, and returns it if a check on the instance proves it
-/// (Schrijver, Combinatorial Optimization, volume A, chapter 29). It is found by searches over pairs
-/// of neighbouring vertices of odd degree. Without a result there may be a join or none.
+/// (Schrijver, Combinatorial Optimization, volume A, chapter 29). It is found by searches over
+/// pairs of neighbouring vertices of odd degree. Without a result there may be a join or none.
 ///
 /// The steps of its searches are counted on `steps`.
 ///

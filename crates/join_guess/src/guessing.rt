@@ -22,8 +22,8 @@ fn budget_of(vertices: u64, edges: u64) -> u64
 /// How many arcs searches for shortest paths may follow for each edge of the graph of ports.
 const LOOKS: u64 = 3;
 
-/// How many steps searches may take twice over, and how many arcs may be followed. The graph of ports
-/// of any parity is at least as large as that for tours, in which no vertex has a spare port.
+/// How many steps searches may take twice over, and how many arcs may be followed. The graph of
+/// ports of any parity is at least as large as that for tours, in which no vertex has a spare port.
 fn allowance(instance: &Instance, parity: &Parity) -> (u64, u64)
     requires limits { IsWithinLimits (ports_size instance.now (odd_at parity.now instance.now)) }
     ensures { result.0 ≤ most_steps (ports_size instance.now (odd_at parity.now instance.now)) }

@@ -29,7 +29,7 @@ fn add_two(graph: &mut Graph, place: u32, weight: i64) -> Result<(), OutOfMemory
     requires paired { IsPairedUp place graph.old }
     requires each { length graph.old.edges ≡ place }
     requires room { 2 * place + 2 ≤ graph.old.vertices }
-    requires few { graph.old.vertices ≤ GRAPH_VERTEX_LIMIT }
+    requires size_limit { graph.old.vertices ≤ GRAPH_VERTEX_LIMIT }
     ensures paired { OnOk result (IsPairedUp (place + 1) graph.new) }
     ensures each { OnOk result (length graph.new.edges ≡ place + 1) }
     ensures vertices { graph.new.vertices ≡ graph.old.vertices }
@@ -45,7 +45,7 @@ fn add_two(graph: &mut Graph, place: u32, weight: i64) -> Result<(), OutOfMemory
 
 /// The graph of the pairs of leaves 1 and 2, 3 and 4, and so on.
 fn graph_of_twos(alloc: Global, distances: &[i64]) -> Result<Graph, OutOfMemory>
-    requires few { 2 * length distances.now ≤ GRAPH_VERTEX_LIMIT }
+    requires size_limit { 2 * length distances.now ≤ GRAPH_VERTEX_LIMIT }
     ensures vertices { IfOk result (λ g. g.vertices ≡ 2 * length distances.now) }
     ensures paired { IfOk result (λ g. IsPairedUp (length distances.now) g) }
 {
@@ -102,7 +102,7 @@ pub(crate) fn pair_graph(
     pairs: &[Pair],
 ) -> Result<Option<Graph>, OutOfMemory>
     ensures limits { IfOk result (λ o. IfSome o (λ g. IsWithinLimits (size_of_graph g))) }
-    ensures plain { IfOk result (λ o. IfSome o HasNoLoop) }
+    ensures loopless { IfOk result (λ o. IfSome o HasNoLoop) }
     ensures perfect { IfOk result (λ o. IfSome o HasPerfect) }
 {
     if distances.len() > GRAPH_VERTEX_LIMIT as usize / 2 {

@@ -96,8 +96,8 @@ impl Work {
         )
     }
 
-    /// Adds pairs for another round: those that the forest is too long for, or else of each leaf and
-    /// the nearest others. Answers whether there were any.
+    /// Adds pairs for another round: those that the forest is too long for, or else of each leaf
+    /// and the nearest others. Answers whether there were any.
     fn add_more(
         &mut self,
         instance: &Instance,

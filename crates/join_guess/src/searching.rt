@@ -29,7 +29,7 @@ fn found_after<L: Ledger>(
     engine: &mut Engine,
     steps: &mut Steps<L>,
 ) -> Result<Found, OutOfMemory>
-    requires fresh { engine.old.outcome ≡ None }
+    requires not_run { engine.old.outcome ≡ None }
     requires perfect { HasPerfect engine.old.graph }
     ensures { 2 * steps.new ≤ 2 * steps.old + most_steps (size_of_graph engine.old.graph) }
 {
@@ -44,7 +44,7 @@ fn found_in<L: Ledger>(
     steps: &mut Steps<L>,
 ) -> Result<Found, OutOfMemory>
     requires limits { IsWithinLimits (size_of_graph graph) }
-    requires plain { HasNoLoop graph }
+    requires loopless { HasNoLoop graph }
     requires perfect { HasPerfect graph }
     ensures { 2 * steps.new ≤ 2 * steps.old + most_steps (size_of_graph graph) }
 {

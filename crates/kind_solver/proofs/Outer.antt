@@ -4,24 +4,25 @@ use Rattle.certificates.proofs.Common.{◌∙◌, subst, arith, codes, list_all,
 use Rattle.certificates.proofs.Common.{walk_vertices, all_holds, walk-numbers, vertices-within, vertices-length, IsEvenPath, IsDecomposed, edges_used, PathsDecompose, LoopsMatterNot, Gallai}
 use Rattle.certificates.proofs.Common.{Counts, Values, IsFeasible, IsMatching, weight_of, Network, IsNetwork, vertices, graph_of, network-graph, edges-count, ReachesAll, times_each}
 use Rattle.certificates.proofs.Common.{times_each-length, Document, CountLine, PathLine, DocStatus, AscendsBy, Body, ascends, parts_of, body_of, row_text, head_row, part_row, parts_text}
-use Rattle.certificates.proofs.Common.{document_text, IsStatedPath, HavePathForm, HasAllPaths, HasDecomposition, answer_of, counts_of, numbers, set_of, sets_of, members_of, stated_counts, path_starts}
+use Rattle.certificates.proofs.Common.{document_text, IsStatedPath, HavePathForm, HasAllPaths, HasDecomposition, answer_of, counts_of, numbers, set_of, sets_of, members_of, stated_counts}
+use Rattle.certificates.proofs.Common.{path_starts}
 use Rattle.certificates.proofs.Common.{IsProved, ProvesOptimal, ProvesByStatus, is_up_to, all_in_range, all_in_range_for, IsUpTo, IsCountWithin, IsPathWithin, AreWithin, proved_true}
 use Rattle.certificates.proofs.Common.{in-range}
 use Rattle.graph_parts.specs.OddParts.{IsFirstOddPart, is_terminal}
 use Rattle.document_lines.specs.Lines.{member_line, ListsAnswer}
 use Rattle.document_lines.proofs.Listing.{none-named}
 use Rattle.document_lines.proofs.Ascents.{ascends-pos, numbers-pos, map-map, unmap}
-use Rattle.kind_answers.specs.Chosen.{StartsFirst, IsFirstMetPart, IsChosen}
-use Rattle.kind_answers.specs.Settled.{SettlesBare}
-use Rattle.kind_answers.specs.Solved.{HasTrueStatus, HasFitWeights}
-use Rattle.kind_answers.specs.declared.limits.TheConstants.{PATHS_BYTE_LIMIT}
-use Rattle.kind_answers.proofs.Excluding.{has-line, up_to-pos, few-vertices}
-use Rattle.kind_answers.proofs.InRange.{all_up_to, counts_in, paths_in}
-use Rattle.kind_answers.proofs.LineSizes.{count-size, members-size, path-size, head-size, few_members}
-use Rattle.kind_answers.proofs.SettlingSets.{none_if, short-none}
-use Rattle.kind_answers.proofs.SettlingSets.{no-weights}
-use Rattle.kind_answers.proofs.Short.{lines-size, line-size, document-size}
-use Rattle.kind_answers.proofs.Texts.{size-append}
+use Rattle.solve_answers.specs.Chosen.{StartsFirst, IsFirstMetPart, IsChosen}
+use Rattle.solve_answers.specs.Settled.{SettlesBare}
+use Rattle.solve_answers.specs.Solved.{HasTrueStatus, HasFitWeights}
+use Rattle.solve_answers.specs.declared.limits.TheConstants.{PATHS_BYTE_LIMIT}
+use Rattle.solve_answers.proofs.Excluding.{has-line, up_to-pos, few-vertices}
+use Rattle.solve_answers.proofs.InRange.{all_up_to, counts_in, paths_in}
+use Rattle.solve_answers.proofs.LineSizes.{count-size, members-size, path-size, head-size, few_members}
+use Rattle.solve_answers.proofs.SettlingSets.{none_if, short-none}
+use Rattle.solve_answers.proofs.SettlingSets.{no-weights}
+use Rattle.solve_answers.proofs.Short.{lines-size, line-size, document-size}
+use Rattle.solve_answers.proofs.Texts.{size-append}
 use Rattle.gallai.specs.declared.found.Decomposition.{Decomposition}
 use Rattle.gallai.specs.Decompositions.{IsDecomposition}
 use Rattle.gallai.proofs.Greatest.{listed-each, listed-used}
@@ -199,7 +200,7 @@ module _ (i : Network) (found : Decomposition) (d : Document) (network : IsNetwo
       let few = few_members (vertices i) found.d is.outer_set in
       lines-size part.Even 4096 25000 (map path_line found.paths)
       (record {
-        few = omega (arith, few_vertices, many, listed, each, few);
+        size_limit = omega (arith, few_vertices, many, listed, each, few);
         short = All-map (λ r. length (row_text (part_row (part.Even r))) ≤ 25000) path_line found.paths (λ k e b. path_size (get_or found.paths k e) (start k e b) (is.paths k e b));
       })
 
@@ -210,7 +211,7 @@ module _ (i : Network) (found : Decomposition) (d : Document) (network : IsNetwo
       let few_xs : length d.counts ≤ m = p.few_counts in
       lines-size part.Count 65536 44 d.counts
       (record {
-        few = omega arith;
+        size_limit = omega arith;
         short = All-weaker (IsCountWithin m) (λ x. length (row_text (part_row (part.Count x))) ≤ 44) (λ x w. count-size m x few_edges w) d.counts p.counts_within;
       })
 
@@ -238,7 +239,7 @@ module _ (i : Network) (found : Decomposition) (d : Document) (network : IsNetwo
       exact = subst (HasTrueStatus Gallai i) (sym p.status) ((answer_of Gallai i d, feasible), fit i);
       chosen = chosen-greatest;
       short_walk = short-none i d (ap (λ (b : Body). b.walk) p.only);
-      small = short-greatest;
+      size_limit = short-greatest;
     },
     record { duals = ap (λ (b : Body). b.duals) p.only; sets = ap (λ (b : Body). b.sets) p.only },
   )

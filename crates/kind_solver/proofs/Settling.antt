@@ -3,25 +3,26 @@ use Rattle.certificates.proofs.Common.{◌≡◌, ◌≢◌, ◌↔◌, ℕ, ◌
 use Rattle.certificates.proofs.Common.{nat_abs, refl, sym, ap, ◌∙◌, subst, arith, codes, list_all, and_from, eqb-true, eq-eqb, false≢true, All-weaker, IsBarrier, IsVertexSet}
 use Rattle.certificates.proofs.Common.{Perfect, Bottleneck, Counts, Values, IsFeasible, weight_of, Network, IsNetwork, vertices, graph_of, plain_graph, feasible-places, IsReached}
 use Rattle.certificates.proofs.Common.{ReachesAll, lighter_than, plain-graph, perfect-reached, Document, MemberLine, DocStatus, Body, at_most_one, parts_of, body_of, row_text, part_row}
-use Rattle.certificates.proofs.Common.{parts_text, document_text, HasLighterBarrier, answer_of, counts_of, numbers, set_of, sets_of, IsProved, ProvesOptimal, ProvesByStatus, is_up_to, all_in_range}
+use Rattle.certificates.proofs.Common.{parts_text, document_text, HasLighterBarrier, answer_of, counts_of, numbers, set_of, sets_of, IsProved, ProvesOptimal, ProvesByStatus, is_up_to}
+use Rattle.certificates.proofs.Common.{all_in_range}
 use Rattle.certificates.proofs.Common.{all_in_range_for, IsUpTo, IsCountWithin, AreWithin, proved_true-pathless, in-range}
 use Rattle.graph_parts.specs.OddParts.{IsFirstOddPart, is_terminal}
 use Rattle.document_lines.specs.Lines.{member_line}
 use Rattle.document_lines.proofs.Listing.{none-named}
-use Rattle.kind_answers.specs.Chosen.{StartsFirst, IsFirstMetPart, IsChosen}
-use Rattle.kind_answers.specs.Excluding.{StatesSet}
-use Rattle.kind_answers.specs.Settled.{SettlesBare}
-use Rattle.kind_answers.specs.Solved.{HasTrueStatus, HasFitWeights}
-use Rattle.kind_answers.specs.declared.limits.TheConstants.{DOCUMENT_BYTE_LIMIT}
-use Rattle.kind_answers.proofs.Excluding.{has-line, up_to-pos, few-vertices}
-use Rattle.kind_answers.proofs.InRange.{all_up_to, counts_in}
-use Rattle.kind_answers.proofs.LineSizes.{count-size, members-size, head-size}
-use Rattle.kind_answers.proofs.PartDocuments.{settles-barred}
-use Rattle.kind_answers.proofs.SettlingSets.{none_if, short-none}
-use Rattle.kind_answers.proofs.SettlingSets.{no-weights}
-use Rattle.kind_answers.proofs.SettlingSets.{bare-set}
-use Rattle.kind_answers.proofs.Short.{lines-size, line-size, short-document}
-use Rattle.kind_answers.proofs.Texts.{size-append}
+use Rattle.solve_answers.specs.Chosen.{StartsFirst, IsFirstMetPart, IsChosen}
+use Rattle.solve_answers.specs.Excluding.{StatesSet}
+use Rattle.solve_answers.specs.Settled.{SettlesBare}
+use Rattle.solve_answers.specs.Solved.{HasTrueStatus, HasFitWeights}
+use Rattle.solve_answers.specs.declared.limits.TheConstants.{DOCUMENT_BYTE_LIMIT}
+use Rattle.solve_answers.proofs.Excluding.{has-line, up_to-pos, few-vertices}
+use Rattle.solve_answers.proofs.InRange.{all_up_to, counts_in}
+use Rattle.solve_answers.proofs.LineSizes.{count-size, members-size, head-size}
+use Rattle.solve_answers.proofs.PartDocuments.{settles-barred}
+use Rattle.solve_answers.proofs.SettlingSets.{none_if, short-none}
+use Rattle.solve_answers.proofs.SettlingSets.{no-weights}
+use Rattle.solve_answers.proofs.SettlingSets.{bare-set}
+use Rattle.solve_answers.proofs.Short.{lines-size, line-size, short-document}
+use Rattle.solve_answers.proofs.Texts.{size-append}
 use Rattle.kind_solver.specs.Lightest.{line_beside, StatesLightest}
 use Rattle.doc_format.specs.declared.part.Part.TheVariants as part
 
@@ -120,7 +121,7 @@ module _ (i : Network) (set : List ℕ) (d : Document) (w : ℤ) (network : IsNe
       let few_xs : length d.counts ≤ m = p.few_counts in
       let counts : length (parts_text (map part.Count d.counts)) ≤ 65536 * 44 = lines-size part.Count 65536 44 d.counts
       (record {
-        few = omega arith;
+        size_limit = omega arith;
         short = All-weaker (IsCountWithin m) (λ x. length (row_text (part_row (part.Count x))) ≤ 44) (λ x w. count-size m x few_edges w) d.counts p.counts_within;
       }) in
       let barrier = line-size part.Barrier 100000 line (beside (vertices i) set (λ u. length (row_text (part_row (part.Barrier u))) ≤ 100000)
@@ -140,7 +141,7 @@ module _ (i : Network) (set : List ℕ) (d : Document) (w : ℤ) (network : IsNe
       exact = subst (HasTrueStatus Bottleneck i) (sym p.status) ((Counts p.counts, p.perfect), fit i);
       chosen = chosen-lightest;
       short_walk = short-none i d (ap (λ (b : Body). b.walk) p.only);
-      small = short-lightest;
+      size_limit = short-lightest;
     },
     record { duals = ap (λ (b : Body). b.duals) p.only; sets = ap (λ (b : Body). b.sets) p.only },
   )

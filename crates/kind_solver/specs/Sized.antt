@@ -7,7 +7,7 @@ use Rattle.mb_problem.specs.Network.{Network}
 use Rattle.mb_problem.specs.Size.{size_of}
 use Rattle.doc_format.specs.declared.document.Document.{Document}
 use Rattle.mwpm_engine.specs.Solutions.{most_steps}
-use Rattle.kind_answers.specs.Settled.{IsWrittenFor, SettlesFor}
+use Rattle.solve_answers.specs.Settled.{IsWrittenFor, SettlesFor}
 use Rattle.kind_solver.specs.declared.sized.SolveError.{SolveError}
 use Rattle.kind_solver.specs.declared.sized.SolveError.TheVariants.{TooLarge, OutOfMemory}
 

@@ -10,17 +10,17 @@ ghost use Rattle.mb_problem.specs.Size.{size_of};
 ghost use Rattle.bottleneck.specs.declared.found.Bottleneck.TheVariants.{Best};
 ghost use Rattle.bottleneck.specs.Thresholds.{IsThreshold};
 ghost use Rattle.mwpm_engine.specs.Solutions.{most_steps};
-ghost use Rattle.kind_answers.specs.Excluding.{StatesSet};
-ghost use Rattle.kind_answers.specs.Settled.{SettlesBare};
+ghost use Rattle.solve_answers.specs.Excluding.{StatesSet};
+ghost use Rattle.solve_answers.specs.Settled.{SettlesBare};
 ghost use Rattle.kind_solver.specs.Lightest.{line_beside, StatesLightest};
 
 use bottleneck::{Bottleneck, threshold};
 use doc_format::{DocStatus, Document, Head, MemberLine};
 use document_lines::{count_lines, member_line};
 use gadget_base::extract_plain;
-use kind_answers::infeasible_by;
 use mb_base::{EdgeId, OutOfMemory, Sequence, Steps, VertexId};
 use mb_problem::{EDGE_LIMIT, Instance, Kind};
+use solve_answers::infeasible_by;
 use std::alloc::Global;
 use std::sync::ledger::Ledger;
 

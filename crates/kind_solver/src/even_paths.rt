@@ -13,16 +13,16 @@ ghost use Rattle.certificates.specs.Claims.{counts_of};
 ghost use Rattle.certificates.specs.Within.{IsCountWithin};
 ghost use Rattle.mwpm_engine.specs.Solutions.{most_steps};
 ghost use Rattle.gallai.specs.Decompositions.{IsDecomposition};
-ghost use Rattle.kind_answers.specs.Settled.{SettlesBare};
+ghost use Rattle.solve_answers.specs.Settled.{SettlesBare};
 ghost use Rattle.kind_solver.specs.Greatest.{path_line, StatesGreatest};
 
 use doc_format::{CountLine, DocStatus, Document, Head, PathLine};
 use document_lines::{count_lines, member_line};
 use gadget_base::count_listed;
 use gallai::{Decomposition, decompose};
+use gallai_theory::laws;
 use mb_base::{EdgeId, OutOfMemory, Sequence, Steps, VertexId};
 use mb_problem::{Answer, EDGE_LIMIT, Instance, Kind};
-use outer_sets::laws;
 use std::alloc::Global;
 use std::sync::ledger::Ledger;
 
@@ -64,13 +64,13 @@ fn matching_lines(
     matching: &[EdgeId],
 ) -> Result<Sequence<CountLine>, OutOfMemory>
     requires numbers { All (IsEdgeNumber (graph_of instance.now)) matching.now }
-    requires few { length matching.now ≤ 65536 }
+    requires size_limit { length matching.now ≤ 65536 }
     requires once { All (λ n. n ≤ 1) (times_each (graph_of instance.now) matching.now) }
     ensures counts { IfOk result (λ xs. counts_of xs (length instance.now.edges)
         ≡ times_each (graph_of instance.now) matching.now) }
     ensures ascending { IfOk result (AscendsBy (λ x. x.edge)) }
     ensures in_range { IfOk result (All (IsCountWithin (length instance.now.edges))) }
-    ensures few { IfOk result (λ xs. length xs ≤ length instance.now.edges) }
+    ensures size_limit { IfOk result (λ xs. length xs ≤ length instance.now.edges) }
 {
     let counts = count_listed(alloc, instance, matching)?;
     let answer = Answer::Counts(Sequence::from_vec(counts));

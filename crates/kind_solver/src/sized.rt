@@ -2,7 +2,7 @@
 ghost use Rattle.std.specs.Prelude.{◌≡◌, true, IfOk};
 ghost use Rattle.mb_problem.specs.Ready.{IsReady};
 ghost use Rattle.doc_format.specs.declared.status.DocStatus.TheVariants.{Infeasible};
-ghost use Rattle.kind_answers.specs.Solved.{is_tested_first};
+ghost use Rattle.solve_answers.specs.Solved.{is_tested_first};
 ghost use Rattle.kind_solver.specs.Sized.{CountsSized, SolvesSized};
 
 use crate::solving::solve_written;
@@ -36,7 +36,7 @@ pub fn solve_sized<L: Ledger>(
     brief: bool,
     steps: &mut Steps<L>,
 ) -> Result<Document, SolveError>
-    requires ready { IsReady kind instance.now }
+    requires well_formed { IsReady kind instance.now }
 
     // The document of an instance within the limits, or the size that is past one.
     ensures answer { SolvesSized brief kind instance.now result }

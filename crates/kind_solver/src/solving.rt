@@ -7,9 +7,10 @@ ghost use Rattle.doc_format.specs.Spelling.{document_text};
 ghost use Rattle.doc_format.specs.declared.status.DocStatus.TheVariants.{Infeasible};
 ghost use Rattle.certificates.specs.Proved.{IsProved, StatesTruth};
 ghost use Rattle.mwpm_engine.specs.Solutions.{most_steps};
-ghost use Rattle.kind_answers.specs.Chosen.{IsChosen};
-ghost use Rattle.kind_answers.specs.Settled.{HasShortWalk, IsWrittenFor, SettlesFor, byte_limit_of};
-ghost use Rattle.kind_answers.specs.Solved.{HasTrueStatus, is_tested_first};
+ghost use Rattle.solve_answers.specs.Chosen.{IsChosen};
+ghost use Rattle.solve_answers.specs.Settled.{HasShortWalk, IsWrittenFor, SettlesFor};
+ghost use Rattle.solve_answers.specs.Settled.{byte_limit_of};
+ghost use Rattle.solve_answers.specs.Solved.{HasTrueStatus, is_tested_first};
 
 use crate::barriers::lightest;
 use crate::even_paths::greatest;
@@ -29,7 +30,7 @@ fn by_duals<L: Ledger>(
 ) -> Result<Document, OutOfMemory>
     requires limits { IsWithinLimits (size_of kind instance.now) }
     requires duals { are_duals (proof_of kind) ≡ true }
-    requires ready { IsReady kind instance.now }
+    requires well_formed { IsReady kind instance.now }
     ensures settled { IfOk result (SettlesFor brief kind instance.now) }
     ensures steps { steps.new ≤ steps.old
         + searches_of kind * most_steps (size_of kind instance.now) }
@@ -61,7 +62,7 @@ pub fn solve<L: Ledger>(
     steps: &mut Steps<L>,
 ) -> Result<Document, OutOfMemory>
     requires limits { IsWithinLimits (size_of kind instance.now) }
-    requires ready { IsReady kind instance.now }
+    requires well_formed { IsReady kind instance.now }
 
     // For every kind, the document proves its answer, is true, and is optimal exactly if some
     // answer is feasible (and, for a path, the weights are conservative).
@@ -72,7 +73,7 @@ pub fn solve<L: Ledger>(
     // The same choices; at most 8 MiB of text, or 128 MiB if alternating paths prove it; a `u` line
     // of `bottleneck` exactly if there is a vertex.
     ensures chosen { IfOk result (IsChosen kind instance.now) }
-    ensures small { IfOk result (λ d. length (document_text d false) ≤ byte_limit_of kind) }
+    ensures size_limit { IfOk result (λ d. length (document_text d false) ≤ byte_limit_of kind) }
 
     // A walk has at most twice as many edges as the instance.
     ensures short_walk { IfOk result (HasShortWalk instance.now) }
@@ -104,7 +105,7 @@ pub fn solve_written<L: Ledger>(
     steps: &mut Steps<L>,
 ) -> Result<Document, OutOfMemory>
     requires limits { IsWithinLimits (size_of kind instance.now) }
-    requires ready { IsReady kind instance.now }
+    requires well_formed { IsReady kind instance.now }
 
     // The same of a document to be written with or without its certificate.
     ensures written { IfOk result (IsWrittenFor kind instance.now brief) }

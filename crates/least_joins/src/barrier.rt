@@ -33,7 +33,7 @@ pub fn barrier_vertices(
     graph: &Graph,
 ) -> Result<Vec<VertexId>, OutOfMemory>
     requires barrier { engine.now.outcome ≡ Some Barrier }
-    requires same { engine.now.graph ≡ graph.now }
+    requires same_graph { engine.now.graph ≡ graph.now }
     requires set { IsVertexSet graph.now.vertices engine.now.barrier }
 
     // The vertices of the engine's barrier, ascending.

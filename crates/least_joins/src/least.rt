@@ -27,7 +27,7 @@ fn matched_join<L: Ledger>(
     engine: &mut Engine,
     steps: &mut Steps<L>,
 ) -> Result<Join, OutOfMemory>
-    requires fresh { engine.old.outcome ≡ None }
+    requires not_run { engine.old.outcome ≡ None }
     requires ports { engine.old.graph ≡ ports_graph instance.now (odd_at parity.now instance.now) }
     requires reached { ReachesJoins parity.now instance.now }
     requires some { HasJoin parity.now instance.now }

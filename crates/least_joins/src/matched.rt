@@ -18,7 +18,7 @@ fn push_matched(
     e: EdgeId,
 ) -> Result<(), OutOfMemory>
     requires matched { engine.now.outcome ≡ Some Matched }
-    requires same { engine.now.graph ≡ graph.now }
+    requires same_graph { engine.now.graph ≡ graph.now }
     requires edge { IsEdgeNumber graph.now e }
     ensures { OnOk result
         (edges.new.items
@@ -37,7 +37,7 @@ fn push_matched(
 /// the edges.
 pub fn matching(alloc: Global, engine: &Engine, graph: &Graph) -> Result<Vec<EdgeId>, OutOfMemory>
     requires matched { engine.now.outcome ≡ Some Matched }
-    requires same { engine.now.graph ≡ graph.now }
+    requires same_graph { engine.now.graph ≡ graph.now }
 
     // The edges of the engine's perfect matching, each as often as the matching has it, ascending.
     ensures counts { IfOk result

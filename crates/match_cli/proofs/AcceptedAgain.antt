@@ -1,10 +1,10 @@
 -- What `solve` wrote in full is accepted by `check` where it follows the input.
 use Rattle.certificates.proofs.Common.{◌≡◌, ℕ, ◌≤◌, false, List, [], ◌∷◌, ◌++◌, length, Option, None, Some, refl, sym, subst, ◌∙◌, arith, IfSome, codes}
 use Rattle.certificates.proofs.Common.{length-append, append_cancel_left, same_Some, IsWithinLimits, Extends, Kind, Network, size_of, Document, document_text}
-use Rattle.kind_answers.proofs.Short.{limit-most}
-use Rattle.text_check.specs.declared.status.Status.{Status}
-use Rattle.text_check.specs.declared.status.Status.TheVariants.{Done, Rejected, Usage, Malformed, TooLarge, TooLong, ReadFault, WriteFault, OutOfMemory}
-use Rattle.text_check.proofs.AcceptedBehind.{accepts_both}
+use Rattle.solve_answers.proofs.Short.{limit-most}
+use Rattle.check_text.specs.declared.status.Status.{Status}
+use Rattle.check_text.specs.declared.status.Status.TheVariants.{Done, Rejected, Usage, Malformed, TooLarge, TooLong, ReadFault, WriteFault, OutOfMemory}
+use Rattle.check_text.proofs.AcceptedBehind.{accepts_both}
 use Rattle.command_words.specs.declared.command.Command.{Command}
 use Rattle.command_words.specs.declared.command.Command.TheVariants.{Check, Solve}
 use Rattle.command_words.specs.Commands.{command_of}
@@ -25,9 +25,9 @@ accepts_text : (kind : Kind) (front : List ℕ) (i : Network) (d : Document) →
 accepts_text kind front i d short alone fits solves =
     let input = front ++ 10 ∷ [] in
     let sum = length-append input (document_text d false) in
-    let small = solves.small in
+    let small = solves.size_limit in
     let most = limit-most kind in
-    let read = kept kind i d solves.network fits solves.proved solves.small in
+    let read = kept kind i d solves.network fits solves.proved solves.size_limit in
     let accepts = accepts_both kind front i d alone.holds alone.alone read fits solves.proved solves.truth in
     (omega arith, (i, accepts.0, accepts.1, refl))
 

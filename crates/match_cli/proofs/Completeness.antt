@@ -6,14 +6,14 @@ use Rattle.dimacs_read.proofs.ReadingLemmas.{one_instance, no_instance_and_fault
 use Rattle.command_words.specs.declared.command.Command.{Command}
 use Rattle.command_words.specs.declared.command.Command.TheVariants.{Check, Solve, Trial}
 use Rattle.command_words.specs.Commands.{command_of}
-use Rattle.text_check.specs.declared.status.Status.{Status}
-use Rattle.text_check.specs.declared.status.Status.TheVariants.{Done, Rejected, Usage, Malformed, TooLarge, TooLong, ReadFault, WriteFault, OutOfMemory}
+use Rattle.check_text.specs.declared.status.Status.{Status}
+use Rattle.check_text.specs.declared.status.Status.TheVariants.{Done, Rejected, Usage, Malformed, TooLarge, TooLong, ReadFault, WriteFault, OutOfMemory}
 use Rattle.match_cli.specs.Commands.{IsShort, given}
-use Rattle.text_check.specs.Answers.{instance_part, document_part, InputHolds}
+use Rattle.check_text.specs.Answers.{instance_part, document_part, InputHolds}
 use Rattle.match_cli.specs.Answers.{answer_place, RefusesInput, Answers, Gives, Out}
 use Rattle.match_cli.specs.Runs.{IsAnswer, IsInput, MayReject, IsAnswered, IsComplete, Completes}
 use Rattle.match_cli.proofs.Decided.{decided}
-use Rattle.text_check.proofs.InputParts.{place_none}
+use Rattle.check_text.proofs.InputParts.{place_none}
 
 no_command : (words : List (List ℕ)) (command : Command) → command_of words ≡ None → command_of words ≡ Some command → ⊥
 no_command words command none some = (let e : None ≡ Some command = sym none ∙ some in absurd cc)

@@ -6,11 +6,11 @@ use Rattle.mb_base.specs.declared.whole.ReadAll.{ReadAll}
 use Rattle.certificates.proofs.Common.{append-nil, length-append}
 use Rattle.command_words.specs.declared.command.Command.{Command}
 use Rattle.command_words.specs.Commands.{command_of}
-use Rattle.text_check.specs.declared.reply.Reply.{Reply}
-use Rattle.match_cli.specs.declared.top.Stop.{Stop}
+use Rattle.check_text.specs.declared.output.Output.{Output}
+use Rattle.match_cli.specs.declared.program.Failure.{Failure}
 use Rattle.match_cli.specs.Prepared.{Prepares, Readies}
-use Rattle.text_check.specs.declared.status.Status.{Status}
-use Rattle.text_check.specs.declared.status.Status.TheVariants.{Done, Rejected, Usage, Malformed, TooLarge, TooLong, ReadFault, WriteFault, OutOfMemory}
+use Rattle.check_text.specs.declared.status.Status.{Status}
+use Rattle.check_text.specs.declared.status.Status.TheVariants.{Done, Rejected, Usage, Malformed, TooLarge, TooLong, ReadFault, WriteFault, OutOfMemory}
 use Rattle.match_cli.specs.Commands.{limit_of, ReadsUpTo, given}
 use Rattle.command_words.specs.declared.command.Command.TheVariants.{Check, Solve, Trial}
 use Rattle.match_cli.specs.Counts.{CountsInstance, CountsSource}
@@ -19,7 +19,7 @@ use Rattle.match_cli.specs.Runs.{IsAnswer, IsWritten, left_by, Spends}
 use Rattle.match_cli.proofs.Decided.{decided}
 use Rattle.match_cli.proofs.CommandLines.{given_source, left-reading}
 use Rattle.mb_base.specs.declared.whole.ReadAll.TheVariants as ending
-use Rattle.match_cli.specs.declared.top.Stop.TheVariants as stop
+use Rattle.match_cli.specs.declared.program.Failure.TheVariants as stop
 
 -- all bytes were read
 all_read : (xs ys bytes : List ℕ) → xs ≡ bytes ++ ys → ys ≡ [] → bytes ≡ xs
@@ -113,7 +113,8 @@ counted-unread words command source bytes old new taken unread nothing h =
 
 -- a command is decided on, or memory is wanting
 pub answered_reading : (words : List (List ℕ)) (command : Command) (limit : ℕ) (bytes : List ℕ) (before after : Option (List ℕ)) → command_of words ≡ Some command →
-    limit_of command ≡ Some limit → length bytes ≤ limit → Consumes before after bytes → IsAtEnd after → (r : Result Reply Stop) → IfOk r (λ a. Gives command bytes a.text.items a.status) →
+    limit_of command ≡ Some limit → length bytes ≤ limit → Consumes before after bytes → IsAtEnd after → (r : Result Output Failure) → IfOk r (λ a. Gives command bytes a.text.items a.status)
+    →
     IfErr r (λ s. s ≡ stop.OutOfMemory) → Prepares words before after r
 answered_reading words command limit bytes before after taken reads fits consumed end (Ok a) h memory =
     is_answer words command limit a.text.items bytes taken reads fits before after a.status consumed end h
@@ -142,7 +143,7 @@ long_given words limit before after out reads is h =
     let long = long_answer words limit before after out reads is h in
     (subst (λ (o : Option (List ℕ)). IfSome o (λ bytes. Out words bytes out TooLong)) (sym (given_source words reads.0 limit before reads.1 reads.2)) long.0, long.1)
 
-long_ready : (words : List (List ℕ)) (limit : ℕ) (before after : Option (List ℕ)) → ReadsUpTo words limit → ReadsAll limit before after (Err ending.TooLong) → (r : Result Reply Stop) →
+long_ready : (words : List (List ℕ)) (limit : ℕ) (before after : Option (List ℕ)) → ReadsUpTo words limit → ReadsAll limit before after (Err ending.TooLong) → (r : Result Output Failure) →
     Readies (codes "s TOOLONG\n") TooLong r → Prepares words before after r
 long_ready words limit before after reads h (Ok a) is =
     (subst IsWritten (sym is.1) tt, subst (λ (s : Status). IsAnswer words before after a.text.items s) (sym is.1) (long_given words limit before after a.text.items reads is.0 h))
@@ -150,6 +151,6 @@ long_ready words limit before after reads h (Err stop.ReadFault) is = absurd is
 long_ready words limit before after reads h (Err stop.OutOfMemory) is = tt
 
 pub too_long : (words : List (List ℕ)) (limit : ℕ) (before after : Option (List ℕ)) → ReadsUpTo words limit → (read : Result (Vec ℕ) ReadAll) (e : ReadAll) → read ≡ Err e →
-    e ≡ ending.TooLong → ReadsAll limit before after read → (r : Result Reply Stop) → Readies (codes "s TOOLONG\n") TooLong r → Prepares words before after r
+    e ≡ ending.TooLong → ReadsAll limit before after read → (r : Result Output Failure) → Readies (codes "s TOOLONG\n") TooLong r → Prepares words before after r
 too_long words limit before after reads read e fails is h r readied =
     long_ready words limit before after reads (subst (λ (x : Result (Vec ℕ) ReadAll). ReadsAll limit before after x) (fails ∙ ap (λ x. Err x) is) h) r readied

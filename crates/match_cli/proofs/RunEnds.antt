@@ -1,7 +1,7 @@
 -- What a run leaves, from what was decided on and what the sink took.
 use Rattle.graph_theory.proofs.Common.{ℕ, List}
-use Rattle.text_check.specs.declared.status.Status.{Status}
-use Rattle.text_check.specs.declared.status.Status.TheVariants.{Done, Rejected, Usage, Malformed, TooLarge, TooLong, ReadFault, WriteFault, OutOfMemory}
+use Rattle.check_text.specs.declared.status.Status.{Status}
+use Rattle.check_text.specs.declared.status.Status.TheVariants.{Done, Rejected, Usage, Malformed, TooLarge, TooLong, ReadFault, WriteFault, OutOfMemory}
 use Rattle.match_cli.specs.Runs.{Around, IsDecided, Takes, Runs}
 
 pub written_whole : (words : List (List ℕ)) (before after : Around) (out : List ℕ) (status : Status) → IsDecided words before after out status → Takes before after out →

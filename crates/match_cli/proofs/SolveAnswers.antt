@@ -3,17 +3,17 @@ use Rattle.certificates.proofs.Common.{◌≡◌, ℕ, Bool, List, Result, Ok, E
 use Rattle.dimacs_read.specs.declared.rest.Rest.{Rest}
 use Rattle.dimacs_read.specs.declared.rule.Rule.TheVariants.{UnknownLine}
 use Rattle.dimacs_read.specs.Rest.{IsRest}
-use Rattle.text_check.specs.declared.reply.Reply.{Reply}
-use Rattle.text_check.specs.declared.status.Status.{Status}
-use Rattle.text_check.specs.declared.status.Status.TheVariants.{Done, Rejected, Usage, Malformed, TooLarge, TooLong, ReadFault, WriteFault, OutOfMemory}
+use Rattle.check_text.specs.declared.output.Output.{Output}
+use Rattle.check_text.specs.declared.status.Status.{Status}
+use Rattle.check_text.specs.declared.status.Status.TheVariants.{Done, Rejected, Usage, Malformed, TooLarge, TooLong, ReadFault, WriteFault, OutOfMemory}
 use Rattle.match_cli.specs.Solving.{Solves, SizedAnswer, DecidesSized, FollowedAnswer, DecidesFollowed}
-use Rattle.text_check.specs.Answers.{InputHolds}
+use Rattle.check_text.specs.Answers.{InputHolds}
 use Rattle.match_cli.specs.Answers.{DecidesSolve}
-use Rattle.text_check.proofs.Checks.{if_ok-map}
-use Rattle.text_check.proofs.InputParts.{rest_empty, rest_some}
+use Rattle.check_text.proofs.Checks.{if_ok-map}
+use Rattle.check_text.proofs.InputParts.{rest_empty, rest_some}
 
 -- the answer that is the text of a document
-pub sized_answers : (kind : Kind) (brief : Bool) (i : Network) (d : Document) {E : Type 0} (r : Result Reply E) → IsWithinLimits (size_of kind i) → Solves kind i d →
+pub sized_answers : (kind : Kind) (brief : Bool) (i : Network) (d : Document) {E : Type 0} (r : Result Output E) → IsWithinLimits (size_of kind i) → Solves kind i d →
     IfOk r (λ a. a.text.items ≡ document_text d brief) → IfOk r (λ a. a.status ≡ Done) → IfOk r (DecidesSized kind brief i)
 sized_answers kind brief i d (Ok a) limits solves text status = subst (λ (s : Status). SizedAnswer kind brief i a.text.items s) (sym status) (limits, (d, solves, text))
 sized_answers kind brief i d (Err e) limits solves text status = tt
@@ -30,7 +30,7 @@ decides_from kind brief bytes i rest out ReadFault h is a = absurd a.1.1
 decides_from kind brief bytes i rest out WriteFault h is a = absurd a.1.1
 decides_from kind brief bytes i rest out OutOfMemory h is a = absurd a.1.1
 
-pub solve_answers : (kind : Kind) (brief : Bool) (bytes : List ℕ) (i : Network) (rest : Rest) {E : Type 0} (r : Result Reply E) → InputHolds kind bytes i → IsRest bytes rest →
+pub solve_answers : (kind : Kind) (brief : Bool) (bytes : List ℕ) (i : Network) (rest : Rest) {E : Type 0} (r : Result Output E) → InputHolds kind bytes i → IsRest bytes rest →
     IfOk r (DecidesFollowed kind brief i rest) → IfOk r (λ a. DecidesSolve kind brief bytes a.text.items a.status)
 solve_answers kind brief bytes i rest r h is =
     if_ok-map (DecidesFollowed kind brief i rest) (λ a. DecidesSolve kind brief bytes a.text.items a.status) r (λ a p. decides_from kind brief bytes i rest a.text.items a.status h is p)

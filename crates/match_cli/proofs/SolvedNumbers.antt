@@ -1,9 +1,9 @@
 -- The numbers of a document that was solved are those that a reader keeps.
 use Rattle.certificates.proofs.Common.{◌≤◌, false, length, arith, IsWithinLimits, Kind, Network, IsNetwork, size_of, Document, document_text, HasKeptNumbers}
 use Rattle.certificates.proofs.Common.{IsProved, few_vertices, are-within}
-use Rattle.kind_answers.specs.Settled.{byte_limit_of}
-use Rattle.kind_answers.proofs.Short.{limit-most}
-use Rattle.text_check.proofs.KeptNumbers.{kept_numbers}
+use Rattle.solve_answers.specs.Settled.{byte_limit_of}
+use Rattle.solve_answers.proofs.Short.{limit-most}
+use Rattle.check_text.proofs.KeptNumbers.{kept_numbers}
 
 pub kept : (kind : Kind) (i : Network) (d : Document) → IsNetwork i → IsWithinLimits (size_of kind i) → IsProved kind i d → length (document_text d false) ≤ byte_limit_of kind →
     HasKeptNumbers d

@@ -6,11 +6,11 @@ use Rattle.dimacs_read.proofs.ReadingLemmas.{one_instance}
 use Rattle.command_words.specs.declared.command.Command.{Command}
 use Rattle.command_words.specs.declared.command.Command.TheVariants.{Solve, Trial}
 use Rattle.inst_gen.specs.Made.{made}
-use Rattle.text_check.specs.declared.status.Status.{Status}
-use Rattle.text_check.specs.declared.status.Status.TheVariants.{Done}
-use Rattle.text_check.specs.declared.reply.Reply.{Reply}
+use Rattle.check_text.specs.declared.status.Status.{Status}
+use Rattle.check_text.specs.declared.status.Status.TheVariants.{Done}
+use Rattle.check_text.specs.declared.output.Output.{Output}
 use Rattle.match_cli.specs.Commands.{kind_of}
-use Rattle.text_check.specs.Answers.{instance_part, InputHolds}
+use Rattle.check_text.specs.Answers.{instance_part, InputHolds}
 use Rattle.match_cli.specs.Answers.{HasInstance}
 use Rattle.match_cli.specs.Counts.{largest, CountsSearch, CountsSteps, CountsAnswer, CountsInstance}
 
@@ -27,7 +27,7 @@ within_limits size searches before after fits counted =
     omega (arith, counted, all)
 
 -- a search that was made counts as its command does
-pub done_counts : (command : Command) (before after : ℕ) {E : Type 0} (r : Result Reply E) → IfOk r (λ a. a.status ≡ Done) → CountsSearch (Some command) before after →
+pub done_counts : (command : Command) (before after : ℕ) {E : Type 0} (r : Result Output E) → IfOk r (λ a. a.status ≡ Done) → CountsSearch (Some command) before after →
     CountsAnswer command before after r
 done_counts command before after (Ok a) done counted = subst (λ (s : Status). CountsSteps (Some command) before after s) (sym done) counted
 done_counts command before after (Err e) done counted = counted

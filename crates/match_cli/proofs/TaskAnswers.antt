@@ -3,8 +3,8 @@ use Rattle.mb_problem.proofs.Common.{ℕ, List}
 use Rattle.mb_problem.specs.declared.kind.Kind.{Kind}
 use Rattle.command_words.specs.declared.command.Command.{Command}
 use Rattle.command_words.specs.Commands.{HasRanges}
-use Rattle.text_check.specs.declared.status.Status.{Status}
-use Rattle.text_check.specs.declared.status.Status.TheVariants.{Done, Rejected, Usage, Malformed, TooLarge, TooLong, ReadFault, WriteFault, OutOfMemory}
+use Rattle.check_text.specs.declared.status.Status.{Status}
+use Rattle.check_text.specs.declared.status.Status.TheVariants.{Done, Rejected, Usage, Malformed, TooLarge, TooLong, ReadFault, WriteFault, OutOfMemory}
 use Rattle.match_cli.specs.Answers.{Gives}
 use Rattle.match_cli.proofs.Decided.{decided}
 use Rattle.match_cli.specs.declared.task.Task.{Task}

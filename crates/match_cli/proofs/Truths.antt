@@ -2,8 +2,8 @@
 use Rattle.graph_theory.proofs.Common.{◌≡◌, ℕ, List, Option, Some, None, IfSome}
 use Rattle.command_words.specs.declared.command.Command.{Command}
 use Rattle.command_words.specs.Commands.{command_of}
-use Rattle.text_check.specs.declared.status.Status.{Status}
-use Rattle.text_check.specs.declared.status.Status.TheVariants.{Done, Rejected, Usage, Malformed, TooLarge, TooLong, ReadFault, WriteFault, OutOfMemory}
+use Rattle.check_text.specs.declared.status.Status.{Status}
+use Rattle.check_text.specs.declared.status.Status.TheVariants.{Done, Rejected, Usage, Malformed, TooLarge, TooLong, ReadFault, WriteFault, OutOfMemory}
 use Rattle.match_cli.specs.Commands.{given}
 use Rattle.match_cli.specs.Answers.{Out}
 use Rattle.match_cli.specs.Runs.{IsAnswer, IsTrueBy, TellsTruth}

@@ -11,11 +11,11 @@ use Rattle.dimacs_read.specs.Rows.{is_solution}
 use Rattle.dimacs_read.specs.Format.{IsFirstFault, first_place}
 use Rattle.doc_format.specs.declared.document.Document.{Document}
 use Rattle.doc_format.specs.Spelling.{document_text}
-use Rattle.text_check.specs.declared.status.Status.{Status}
-use Rattle.text_check.specs.declared.status.Status.TheVariants.{Done, Usage, Malformed}
-use Rattle.text_check.specs.declared.status.Status.TheVariants.{TooLarge, TooLong}
-use Rattle.text_check.specs.Lines.{malformed_line, too_large_line}
-use Rattle.text_check.specs.Answers.{instance_part, InputHolds, Decides}
+use Rattle.check_text.specs.declared.status.Status.{Status}
+use Rattle.check_text.specs.declared.status.Status.TheVariants.{Done, Usage, Malformed}
+use Rattle.check_text.specs.declared.status.Status.TheVariants.{TooLarge, TooLong}
+use Rattle.check_text.specs.Lines.{malformed_line, too_large_line}
+use Rattle.check_text.specs.Answers.{instance_part, InputHolds, Decides}
 use Rattle.command_words.specs.declared.command.Command.{Command}
 use Rattle.command_words.specs.declared.command.Command.TheVariants.{Check, Solve, Trial}
 use Rattle.command_words.specs.Commands.{command_of}

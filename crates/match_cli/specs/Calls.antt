@@ -3,9 +3,9 @@ use Rattle.std.specs.Prelude.{◌≡◌, ℕ, List, [], true, false}
 use Rattle.mb_problem.specs.declared.kind.Kind.{Kind}
 use Rattle.command_words.specs.declared.command.Command.{Command}
 use Rattle.command_words.specs.declared.command.Command.TheVariants as command
-use Rattle.text_check.specs.declared.status.Status.{Status}
-use Rattle.text_check.specs.declared.status.Status.TheVariants.{Usage, ReadFault, WriteFault}
-use Rattle.text_check.specs.declared.status.Status.TheVariants.{OutOfMemory}
+use Rattle.check_text.specs.declared.status.Status.{Status}
+use Rattle.check_text.specs.declared.status.Status.TheVariants.{Usage, ReadFault, WriteFault}
+use Rattle.check_text.specs.declared.status.Status.TheVariants.{OutOfMemory}
 use Rattle.match_cli.specs.Answers.{Gives}
 use Rattle.match_cli.specs.declared.task.Task.{Task}
 use Rattle.match_cli.specs.declared.task.Task.TheVariants.{Solve, SolveBriefly, Check}

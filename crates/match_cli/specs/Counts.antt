@@ -7,9 +7,9 @@ use Rattle.mb_problem.specs.Network.{Network}
 use Rattle.mb_problem.specs.Size.{size_of}
 use Rattle.mwpm_engine.specs.Solutions.{most_steps}
 use Rattle.mb_problem.specs.Kinds.{searches_of}
-use Rattle.text_check.specs.declared.status.Status.{Status}
-use Rattle.text_check.specs.declared.status.Status.TheVariants.{Done, OutOfMemory}
-use Rattle.text_check.specs.declared.reply.Reply.{Reply}
+use Rattle.check_text.specs.declared.status.Status.{Status}
+use Rattle.check_text.specs.declared.status.Status.TheVariants.{Done, OutOfMemory}
+use Rattle.check_text.specs.declared.output.Output.{Output}
 use Rattle.command_words.specs.declared.command.Command.{Command}
 use Rattle.command_words.specs.declared.command.Command.TheVariants.{Check, Solve, Trial}
 use Rattle.command_words.specs.Commands.{command_of}
@@ -34,7 +34,7 @@ abbrev pub CountsSteps : Option Command → ℕ → ℕ → Status → Type 0
 CountsSteps command before after Done = CountsSearch command before after
 CountsSteps command before after status = after ≡ before
 
-abbrev pub CountsAnswer : {E : Type 0} → Command → ℕ → ℕ → Result Reply E → Type 0
+abbrev pub CountsAnswer : {E : Type 0} → Command → ℕ → ℕ → Result Output E → Type 0
 CountsAnswer command before after (Ok a) = CountsSteps (Some command) before after a.status
 CountsAnswer command before after (Err e) = CountsSearch (Some command) before after
 

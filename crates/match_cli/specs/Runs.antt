@@ -8,10 +8,10 @@ use Rattle.mb_problem.specs.Network.{Network}
 use Rattle.mb_problem.specs.Size.{size_of}
 use Rattle.doc_format.specs.declared.document.Document.{Document}
 use Rattle.mb_problem.specs.Kinds.{kind_text}
-use Rattle.text_check.specs.declared.status.Status.{Status}
-use Rattle.text_check.specs.declared.status.Status.TheVariants.{Done, Rejected, Usage, Malformed}
-use Rattle.text_check.specs.declared.status.Status.TheVariants.{TooLarge, TooLong, ReadFault}
-use Rattle.text_check.specs.declared.status.Status.TheVariants.{WriteFault, OutOfMemory}
+use Rattle.check_text.specs.declared.status.Status.{Status}
+use Rattle.check_text.specs.declared.status.Status.TheVariants.{Done, Rejected, Usage, Malformed}
+use Rattle.check_text.specs.declared.status.Status.TheVariants.{TooLarge, TooLong, ReadFault}
+use Rattle.check_text.specs.declared.status.Status.TheVariants.{WriteFault, OutOfMemory}
 use Rattle.command_words.specs.declared.command.Command.{Command}
 use Rattle.command_words.specs.declared.command.Command.TheVariants.{Check, Solve, Trial}
 use Rattle.command_words.specs.Commands.{command_of}
@@ -19,7 +19,7 @@ use Rattle.inst_gen.specs.Made.{made}
 use Rattle.match_cli.specs.Commands.{kind_of, IsShort, ReadsUpTo, given}
 use Rattle.match_cli.specs.Solving.{Solves}
 use Rattle.match_cli.specs.Counts.{CountsSearch, CountsSteps}
-use Rattle.text_check.specs.Answers.{document_part, Accepts}
+use Rattle.check_text.specs.Answers.{document_part, Accepts}
 use Rattle.match_cli.specs.Answers.{HasInstance, Gives, Out, HoldsAlone}
 
 -- what a command leaves of the source's bytes: nothing if it reads them, else all

@@ -9,13 +9,13 @@ use Rattle.dimacs_read.specs.declared.rule.Rule.TheVariants.{UnknownLine}
 use Rattle.doc_format.specs.declared.document.Document.{Document}
 use Rattle.doc_format.specs.Spelling.{document_text}
 use Rattle.certificates.specs.Proved.{IsProved, StatesTruth}
-use Rattle.kind_answers.specs.Chosen.{IsChosen}
-use Rattle.kind_answers.specs.Settled.{byte_limit_of}
-use Rattle.kind_answers.specs.Solved.{HasTrueStatus}
-use Rattle.text_check.specs.declared.status.Status.{Status}
-use Rattle.text_check.specs.declared.status.Status.TheVariants.{Done, Malformed, TooLarge}
-use Rattle.text_check.specs.declared.reply.Reply.{Reply}
-use Rattle.text_check.specs.Lines.{malformed_line, too_large_line}
+use Rattle.solve_answers.specs.Chosen.{IsChosen}
+use Rattle.solve_answers.specs.Settled.{byte_limit_of}
+use Rattle.solve_answers.specs.Solved.{HasTrueStatus}
+use Rattle.check_text.specs.declared.status.Status.{Status}
+use Rattle.check_text.specs.declared.status.Status.TheVariants.{Done, Malformed, TooLarge}
+use Rattle.check_text.specs.declared.output.Output.{Output}
+use Rattle.check_text.specs.Lines.{malformed_line, too_large_line}
 
 -- ---- an instance within the limits
 
@@ -28,7 +28,7 @@ pub record Solves (kind : Kind) (i : Network) (d : Document) : Type 0 where
   pub truth : StatesTruth kind i d
   pub exact : HasTrueStatus kind i d.status
   pub chosen : IsChosen kind i d
-  pub small : length (document_text d false) ≤ byte_limit_of kind
+  pub size_limit : length (document_text d false) ≤ byte_limit_of kind
 
 abbrev pub SolvedAnswer : Kind → Bool → Network → List ℕ → Status → Type 0
 SolvedAnswer kind brief i out Done = (d : Document) × Solves kind i d
@@ -43,7 +43,7 @@ SizedAnswer kind brief i out TooLarge = ¬ IsWithinLimits (size_of kind i)
 SizedAnswer kind brief i out status = IsWithinLimits (size_of kind i)
     × SolvedAnswer kind brief i out status
 
-abbrev pub DecidesSized : Kind → Bool → Network → Reply → Type 0
+abbrev pub DecidesSized : Kind → Bool → Network → Output → Type 0
 DecidesSized kind brief i a = SizedAnswer kind brief i a.text.items a.status
 
 -- ---- an instance and what follows it: nothing should
@@ -54,5 +54,5 @@ FollowedAnswer kind brief i rest out Malformed = (rest.bytes ≢ [])
 FollowedAnswer kind brief i rest out status = (rest.bytes ≡ [])
     × SizedAnswer kind brief i out status
 
-abbrev pub DecidesFollowed : Kind → Bool → Network → Rest → Reply → Type 0
+abbrev pub DecidesFollowed : Kind → Bool → Network → Rest → Output → Type 0
 DecidesFollowed kind brief i rest a = FollowedAnswer kind brief i rest a.text.items a.status

@@ -6,10 +6,10 @@ use Rattle.mb_problem.specs.Network.{Network}
 use Rattle.mb_problem.specs.Size.{size_of}
 use Rattle.doc_format.specs.declared.document.Document.{Document}
 use Rattle.cert_check.specs.declared.rule.Verdict.TheVariants.{Accepted}
-use Rattle.text_check.specs.declared.status.Status.{Status}
-use Rattle.text_check.specs.declared.status.Status.TheVariants.{Done, TooLarge}
-use Rattle.text_check.specs.declared.reply.Reply.{Reply}
-use Rattle.text_check.specs.Lines.{trial_text, too_large_line}
+use Rattle.check_text.specs.declared.status.Status.{Status}
+use Rattle.check_text.specs.declared.status.Status.TheVariants.{Done, TooLarge}
+use Rattle.check_text.specs.declared.output.Output.{Output}
+use Rattle.check_text.specs.Lines.{trial_text, too_large_line}
 use Rattle.match_cli.specs.Solving.{Solves}
 
 -- this is written of an instance within the limits: it is solved as `solve` does, and the document
@@ -25,5 +25,5 @@ TrialAnswer kind i out TooLarge = ¬ IsWithinLimits (size_of kind i)
     × (out ≡ too_large_line (size_of kind i))
 TrialAnswer kind i out status = ⊥
 
-abbrev pub DecidesTrial : Kind → Network → Reply → Type 0
+abbrev pub DecidesTrial : Kind → Network → Output → Type 0
 DecidesTrial kind i a = TrialAnswer kind i a.text.items a.status

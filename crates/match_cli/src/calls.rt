@@ -5,11 +5,11 @@ ghost use Rattle.match_cli.specs.Calls.{command_for, Calls};
 
 use crate::commands::answer_to;
 use crate::task::{Task, command_for};
+use check_text::{Output, Status};
 use mb_base::Steps;
 use mb_problem::Kind;
 use std::alloc::Global;
 use std::sync::ledger::Ledger;
-use text_check::{Reply, Status};
 
 /// Does the task for the kind on the bytes of an input, as `run` does for words that ask for the
 /// same. If there isn't enough memory the status is that, and the text is empty.
@@ -19,7 +19,7 @@ pub fn call<L: Ledger>(
     kind: Kind,
     bytes: &[u8],
     steps: &mut Steps<L>,
-) -> Reply
+) -> Output
     // For a task and a kind, the whole text and the status by the same relation; never usage, nor a
     // failed read or write; no text if memory runs out.
     ensures answer { Calls (command_for task kind) bytes.now result.text.items result.status }
@@ -43,7 +43,7 @@ pub fn call<L: Ledger>(
 {
     match answer_to(alloc, command_for(task, kind), bytes, steps) {
         Ok(answer) => answer,
-        Err(_) => Reply {
+        Err(_) => Output {
             text: Vec::new(alloc),
             status: Status::OutOfMemory,
         },

@@ -8,16 +8,16 @@ ghost use Rattle.match_cli.specs.Counts.{CountsAnswer, CountsInstance};
 use crate::limits::{CHECK_BYTE_LIMIT, SOLVE_BYTE_LIMIT};
 use crate::solve::{solve, solve_input};
 use crate::trial::trial;
+use check_text::{Output, check, check_input, too_long};
 use command_words::Command;
 use mb_base::{OutOfMemory, Steps};
 use std::alloc::Global;
 use std::sync::ledger::Ledger;
-use text_check::{Reply, check, check_input, too_long};
 
 /// How many bytes of input the command takes; None if it reads none.
 pub fn limit(command: Command) -> Option<u64>
     ensures limit { result ≡ limit_of command }
-    ensures small { IfSome result (λ limit. limit ≤ 2 ^ 31) }
+    ensures size_limit { IfSome result (λ limit. limit ≤ 2 ^ 31) }
 {
     match command {
         Command::Check { .. } => Some(CHECK_BYTE_LIMIT),
@@ -42,7 +42,7 @@ fn answer_within<L: Ledger>(
     command: Command,
     bytes: &[u8],
     steps: &mut Steps<L>,
-) -> Result<Reply, OutOfMemory>
+) -> Result<Output, OutOfMemory>
     requires ranges { HasRanges command }
     requires short { IsShort command bytes.now }
     ensures answer { IfOk result (λ a. Answers command bytes.now a.text.items a.status) }
@@ -68,7 +68,7 @@ pub fn answer_to<L: Ledger>(
     command: Command,
     bytes: &[u8],
     steps: &mut Steps<L>,
-) -> Result<Reply, OutOfMemory>
+) -> Result<Output, OutOfMemory>
     requires ranges { HasRanges command }
 
     // For a command and bytes, the whole text and the status, by the same relation.
@@ -92,7 +92,7 @@ fn answer_input_within<L: Ledger>(
     command: Command,
     input: Vec<u8>,
     steps: &mut Steps<L>,
-) -> Result<Reply, OutOfMemory>
+) -> Result<Output, OutOfMemory>
     requires ranges { HasRanges command }
     requires short { IsShort command input.items }
     ensures answer { IfOk result (λ a. Answers command input.items a.text.items a.status) }
@@ -113,7 +113,7 @@ pub fn answer_input<L: Ledger>(
     command: Command,
     input: Vec<u8>,
     steps: &mut Steps<L>,
-) -> Result<Reply, OutOfMemory>
+) -> Result<Output, OutOfMemory>
     requires ranges { HasRanges command }
     ensures answer { IfOk result (λ a. Gives command input.items a.text.items a.status) }
     ensures steps { CountsAnswer command steps.old steps.new result }

@@ -1,7 +1,7 @@
 //! The program as one call over any source and any sink: `run` reads the words of the command line,
 //! the input, and writes the answer. Below words `answer_to` is a command and bytes in, the whole
 //! text and the status out, and `call` is the same for a task and a kind, as C asks for them. It
-//! depends on the answers that need no solver (`text_check`), on the reader of instances, on the
+//! depends on the answers that need no solver (`check_text`), on the reader of instances, on the
 //! solver and on made instances. It promises the whole way from bytes to bytes: which answer comes
 //! for which input, that a document that is accepted or written is true of its instance, that what
 //! is written in full is accepted, and what each fault leaves.
@@ -10,15 +10,15 @@
 mod calls;
 mod commands;
 mod limits;
+mod program;
 mod solve;
 mod task;
-mod top;
 mod trial;
 mod trials;
 
 pub use calls::call;
+pub use check_text::{Output, Status};
 pub use commands::answer_to;
 pub use limits::{CHECK_BYTE_LIMIT, SOLVE_BYTE_LIMIT};
+pub use program::run;
 pub use task::Task;
-pub use text_check::{Reply, Status};
-pub use top::run;

@@ -10,6 +10,7 @@ ghost use Rattle.match_cli.specs.Answers.{DecidesSolve};
 ghost use Rattle.match_cli.specs.Counts.{CountsAnswer, CountsInstance};
 ghost use Rattle.match_cli.specs.Solving.{DecidesSized, DecidesFollowed};
 
+use check_text::{Output, Status, malformed, too_large};
 use command_words::Command;
 use dimacs_read::{InstanceError, Rest, Rule, read};
 use doc_format::{Document, write};
@@ -18,15 +19,14 @@ use mb_base::{OutOfMemory, Steps};
 use mb_problem::{Instance, Kind};
 use std::alloc::{AllocError, Global};
 use std::sync::ledger::Ledger;
-use text_check::{Reply, Status, malformed, too_large};
 
-fn solved(alloc: Global, document: &Document, brief: bool) -> Result<Reply, OutOfMemory>
+fn solved(alloc: Global, document: &Document, brief: bool) -> Result<Output, OutOfMemory>
     ensures text { IfOk result (λ a. a.text.items ≡ document_text document.now brief) }
     ensures status { IfOk result (λ a. a.status ≡ Status.Done) }
 {
     let text = write(alloc, document, brief)?;
     let status = Status::Done;
-    Ok(Reply { text, status })
+    Ok(Output { text, status })
 }
 
 /// The answer to an instance: its document, or that its certificate graph is past a limit.
@@ -36,8 +36,8 @@ fn solve_instance<L: Ledger>(
     brief: bool,
     instance: &Instance,
     steps: &mut Steps<L>,
-) -> Result<Reply, OutOfMemory>
-    requires ready { IsReady kind instance.now }
+) -> Result<Output, OutOfMemory>
+    requires well_formed { IsReady kind instance.now }
     requires network { IsNetwork instance.now }
     ensures answer { IfOk result (DecidesSized kind brief instance.now) }
     ensures steps { CountsAnswer (Command.Solve kind brief) steps.old steps.new result }
@@ -63,8 +63,8 @@ fn solve_followed<L: Ledger>(
     instance: &Instance,
     rest: &Rest,
     steps: &mut Steps<L>,
-) -> Result<Reply, OutOfMemory>
-    requires ready { IsReady kind instance.now }
+) -> Result<Output, OutOfMemory>
+    requires well_formed { IsReady kind instance.now }
     requires network { IsNetwork instance.now }
     ensures answer { IfOk result (DecidesFollowed kind brief instance.now rest.now) }
     ensures steps { CountsAnswer (Command.Solve kind brief) steps.old steps.new result }
@@ -84,8 +84,8 @@ fn solve_read<L: Ledger>(
     brief: bool,
     reading: Result<(Instance, Rest), InstanceError>,
     steps: &mut Steps<L>,
-) -> Result<Reply, OutOfMemory>
-    requires ready { IfOk reading (λ r. IsReady kind r.0) }
+) -> Result<Output, OutOfMemory>
+    requires well_formed { IfOk reading (λ r. IsReady kind r.0) }
     ensures answer { (bytes : List ℕ) → Reads kind bytes reading
         → IfOk result (λ a. DecidesSolve kind brief bytes a.text.items a.status) }
     ensures steps { CountsAnswer (Command.Solve kind brief) steps.old steps.new result }
@@ -110,7 +110,7 @@ pub fn solve<L: Ledger>(
     brief: bool,
     bytes: &[u8],
     steps: &mut Steps<L>,
-) -> Result<Reply, OutOfMemory>
+) -> Result<Output, OutOfMemory>
     requires short { length bytes.now ≤ 2 ^ 32 }
     ensures answer { IfOk result (λ a. DecidesSolve kind brief bytes.now a.text.items a.status) }
     ensures steps { CountsAnswer (Command.Solve kind brief) steps.old steps.new result }
@@ -129,7 +129,7 @@ pub fn solve_input<L: Ledger>(
     brief: bool,
     input: Vec<u8>,
     steps: &mut Steps<L>,
-) -> Result<Reply, OutOfMemory>
+) -> Result<Output, OutOfMemory>
     requires short { length input.items ≤ 2 ^ 32 }
     ensures answer { IfOk result (λ a. DecidesSolve kind brief input.items a.text.items a.status) }
     ensures steps { CountsAnswer (Command.Solve kind brief) steps.old steps.new result }

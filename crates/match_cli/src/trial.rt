@@ -12,13 +12,13 @@ ghost use Rattle.match_cli.specs.Trying.{IsTried, DecidesTrial};
 
 use crate::trials::try_instance;
 use certificates::is_within_limits;
+use check_text::{Output, Status, told, too_large};
 use command_words::Command;
 use inst_gen::make;
 use mb_base::{OutOfMemory, Steps};
 use mb_problem::{EDGE_LIMIT, Instance, Kind, VERTEX_LIMIT, gadget_size};
 use std::alloc::Global;
 use std::sync::ledger::Ledger;
-use text_check::{Reply, Status, told, too_large};
 
 /// The answer to an instance within the limits: it is solved, and its document judged.
 fn try_within<L: Ledger>(
@@ -26,8 +26,8 @@ fn try_within<L: Ledger>(
     kind: Kind,
     instance: &Instance,
     steps: &mut Steps<L>,
-) -> Result<Reply, OutOfMemory>
-    requires ready { IsReady kind instance.now }
+) -> Result<Output, OutOfMemory>
+    requires well_formed { IsReady kind instance.now }
     requires network { IsNetwork instance.now }
     requires limits { IsWithinLimits (size_of kind instance.now) }
     ensures text { IfOk result (λ a. IsTried kind instance.now a.text.items) }
@@ -51,7 +51,7 @@ pub fn trial<L: Ledger>(
     n: u32,
     m: u32,
     steps: &mut Steps<L>,
-) -> Result<Reply, OutOfMemory>
+) -> Result<Output, OutOfMemory>
     requires vertices { n ≤ VERTEX_LIMIT }
     requires edges { m ≤ EDGE_LIMIT }
     requires ends { 0 < m → 2 ≤ n }

@@ -7,18 +7,18 @@ ghost use Rattle.mb_problem.specs.Ready.{IsReady};
 ghost use Rattle.doc_format.specs.Spelling.{document_text};
 ghost use Rattle.certificates.specs.Proved.{IsProved, StatesTruth};
 ghost use Rattle.mwpm_engine.specs.Solutions.{most_steps};
-ghost use Rattle.kind_answers.specs.Chosen.{IsChosen};
-ghost use Rattle.kind_answers.specs.Settled.{byte_limit_of};
-ghost use Rattle.kind_answers.specs.Solved.{HasTrueStatus};
+ghost use Rattle.solve_answers.specs.Chosen.{IsChosen};
+ghost use Rattle.solve_answers.specs.Settled.{byte_limit_of};
+ghost use Rattle.solve_answers.specs.Solved.{HasTrueStatus};
 
 use cert_check::Verdict;
+use check_text::judge_text;
 use doc_format::Document;
 use kind_solver::solve;
 use mb_base::{OutOfMemory, Steps};
 use mb_problem::{Instance, Kind};
 use std::alloc::Global;
 use std::sync::ledger::Ledger;
-use text_check::judge_text;
 
 /// A computed document, and the verdict on it as it reads back from its text.
 #[derive(Drop)]
@@ -41,13 +41,13 @@ pub fn try_instance<L: Ledger>(
     steps: &mut Steps<L>,
 ) -> Result<Trial, OutOfMemory>
     requires limits { IsWithinLimits (size_of kind instance.now) }
-    requires ready { IsReady kind instance.now }
+    requires well_formed { IsReady kind instance.now }
     requires network { IsNetwork instance.now }
     ensures proved { IfOk result (λ t. IsProved kind instance.now t.document) }
     ensures truth { IfOk result (λ t. StatesTruth kind instance.now t.document) }
     ensures exact { IfOk result (λ t. HasTrueStatus kind instance.now t.document.status) }
     ensures chosen { IfOk result (λ t. IsChosen kind instance.now t.document) }
-    ensures small { IfOk result (λ t. length (document_text t.document false)
+    ensures size_limit { IfOk result (λ t. length (document_text t.document false)
         ≤ byte_limit_of kind) }
 
     // An instance that is solved, written, read back and judged is accepted.

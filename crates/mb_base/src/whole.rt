@@ -44,7 +44,7 @@ pub struct WriteFault {
 ///
 /// Each turn is one read into a buffer that isn't empty, so it takes a byte or is the last.
 pub fn read_all<S: Source>(alloc: Global, source: &mut S, limit: u64) -> Result<Vec<u8>, ReadAll>
-    requires small { limit < 2 ^ 32 }
+    requires value_limit { limit < 2 ^ 32 }
     requires counts { S.faults source.old < 2 ^ 64 - 1 }
 
     // All bytes of a source in their order, at most a limit of them; a fault is reported exactly if

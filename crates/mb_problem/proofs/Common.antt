@@ -79,11 +79,11 @@ pub use Rattle.graph_theory.specs.Walk.{AllDiffer, IsCircuit, IsClosedWalk, IsCo
 pub use Rattle.graph_theory.specs.declared.edge.Edge.{Edge}
 pub use Rattle.graph_theory.specs.declared.limits.TheConstants.{GRAPH_VERTEX_LIMIT, NUMBER_LIMIT, WEIGHT_LIMIT}
 pub use Rattle.graph_theory.specs.declared.odd_set.OddSet.{OddSet}
-pub use Rattle.outer_sets.proofs.Loops.{kept_at, kept_from}
-pub use Rattle.outer_sets.proofs.Twins.{AreAlike, HasTwin, IsTwin, count-twin, touches-twin}
-pub use Rattle.outer_sets.specs.Decomposition.{Alternates, HaveEvenPaths, HoldsOddComponents, IsDecomposed, IsEvenPath, unweighted, weightless}
-pub use Rattle.outer_sets.specs.Laws.{LoopsMatterNot, PathsDecompose}
-pub use Rattle.outer_sets.specs.Matchings.{IsBeside, IsBorder, IsGreatest, IsMatched, IsMissable, IsOuterSet, edges_used}
+pub use Rattle.gallai_theory.proofs.Loops.{kept_at, kept_from}
+pub use Rattle.gallai_theory.proofs.Twins.{AreAlike, HasTwin, IsTwin, count-twin, touches-twin}
+pub use Rattle.gallai_theory.specs.Decomposition.{Alternates, HaveEvenPaths, HoldsOddComponents, IsDecomposed, IsEvenPath, unweighted, weightless}
+pub use Rattle.gallai_theory.specs.Laws.{LoopsMatterNot, PathsDecompose}
+pub use Rattle.gallai_theory.specs.Matchings.{IsBeside, IsBorder, IsGreatest, IsMatched, IsMissable, IsOuterSet, edges_used}
 pub use Rattle.weighted_graph.proofs.LeftLemmas.{degree-taken, passed-same, still-none, taken-sum}
 pub use Rattle.weighted_graph.specs.Left.{ArePassed, IsTaken, TakesOne}
 pub use Rattle.mb_problem.proofs.CountBounds.{counted-within, limited, times-some, within_capacity}
@@ -99,7 +99,7 @@ pub use Rattle.mb_problem.specs.Feasible.{AreEnds, AtMostOnce, DegreesMeet, HasC
 pub use Rattle.mb_problem.specs.Feasible.{IsPathOf, IsTour, IsWalkWith, WithinCapacities, weight_by, weight_of}
 pub use Rattle.mb_problem.specs.Heaviest.{greater_of, greatest_to, heaviest, used_weight}
 pub use Rattle.mb_problem.specs.Joins.{HasNoNegativeEvenSet, IsJoinOf, IsOddJoin, ListsJoin, listed_counts, odd_between}
-pub use Rattle.mb_problem.specs.Kinds.{are_duals, asks_conservative, default_by, default_value_of, edge_use_of, exclusion_of, form_of, gadget_of, has_bounds, is_drawn, kind_named}
+pub use Rattle.mb_problem.specs.Kinds.{are_duals, asks_conservative, default_by, default_value_of, edge_use_of, obstruction_of, form_of, gadget_of, has_bounds, is_drawn, kind_named}
 pub use Rattle.mb_problem.specs.Kinds.{kind_number, kind_numbered, need_of, proof_of, searches_of, sense_of, vertex_value_of}
 pub use Rattle.mb_problem.specs.Marks.{AreMarks}
 pub use Rattle.mb_problem.specs.Measured.{HasPlaces}

@@ -41,8 +41,8 @@ dropped es e fails = filter-append is_plain es (e ∷ []) ∙ ap (λ (b : Bool).
 
 pub record IsPlainTo (i : Network) (k : ℕ) (g : Multigraph) : Type 0 where
   pub graph : g ≡ plain_to i k
-  pub few : length g.edges ≤ k
-  pub plain : HasNoLoop g
+  pub size_limit : length g.edges ≤ k
+  pub loopless : HasNoLoop g
 
 no-loops : (es : List Edge) → All (λ e. is_loop e ≡ false) (filter is_plain es)
 no-loops es = λ k d below. not-true (is_loop (get_or (filter is_plain es) k d)) (filter_passes is_plain es k d below)
@@ -57,7 +57,7 @@ plain-more i xs k e before after list below is same passes so_far few added =
     let graph : after ≡ plain_to i (k + 1) = added ∙ ap₂ pushed so_far (ap (cast e) same) ∙ ap (λ (es : List Edge). record { vertices = vertices i; edges = es })
     (sym (ap (filter is_plain) (more i xs k e list below is) ∙ kept (map plain (take k i.edges)) (plain e) passes)) in
     let size = ap (λ (g : Multigraph). length g.edges) added ∙ length_push before.edges (cast e (to_z w64 (of_z w64 e.w))) in
-    record { graph = graph; few = omega (arith, size, few); plain = plain_of i (k + 1) after graph }
+    record { graph = graph; size_limit = omega (arith, size, few); loopless = plain_of i (k + 1) after graph }
 
 pub plain-same : (i : Network) (xs : List InstanceEdge) (k : ℕ) (e : InstanceEdge) (before after : Multigraph) → xs ≡ i.edges → k < length xs → e ≡ get_or xs k e
     → is_plain (plain e) ≡ false → before ≡ plain_to i k → length before.edges ≤ k → after ≡ before → IsPlainTo i (k + 1) after
@@ -65,4 +65,4 @@ plain-same i xs k e before after list below is fails so_far few kept_as =
     let graph : after ≡ plain_to i (k + 1) = kept_as ∙ so_far ∙ ap (λ (es : List Edge). record { vertices = vertices i; edges = es })
     (sym (ap (filter is_plain) (more i xs k e list below is) ∙ dropped (map plain (take k i.edges)) (plain e) fails)) in
     let size = ap (λ (g : Multigraph). length g.edges) kept_as in
-    record { graph = graph; few = omega (arith, size, few); plain = plain_of i (k + 1) after graph }
+    record { graph = graph; size_limit = omega (arith, size, few); loopless = plain_of i (k + 1) after graph }

@@ -4,7 +4,7 @@ use Rattle.graph_theory.proofs.Common.{length, slice_index, Option, Some, replic
 use Rattle.mb_problem.specs.declared.kind.Kind.{Kind}
 use Rattle.mb_problem.specs.declared.kind.Kind.TheVariants.{Perfect, Match, BMatch, CapMatch, FFactor, TJoin, Postman, Path, Interval, OddPath, EvenPath, Bottleneck, Gallai}
 use Rattle.mb_problem.specs.declared.kind.AnswerForm.{AnswerForm}
-use Rattle.mb_problem.specs.declared.kind.Exclusion.TheVariants.{OddPart, SplitPart, Never}
+use Rattle.mb_problem.specs.declared.kind.Obstruction.TheVariants.{OddPart, SplitPart, Never}
 use Rattle.mb_problem.specs.declared.kind.BestProof.{BestProof}
 use Rattle.mb_problem.specs.declared.kind.BestProof.TheVariants.{Duals, LighterBarrier, OuterPaths}
 use Rattle.mb_problem.specs.declared.kind.VertexValue.TheVariants.{End}
@@ -14,7 +14,7 @@ use Rattle.mb_problem.specs.declared.gadget.Capacities.TheVariants.{Own, Unit as
 use Rattle.mb_problem.specs.declared.answer.Parity.TheVariants.{Empty, Values, OddDegrees}
 use Rattle.mb_problem.specs.declared.answer.Answer.{Answer}
 use Rattle.mb_problem.specs.declared.answer.Answer.TheVariants.{Counts, Walk, Nothing}
-use Rattle.mb_problem.specs.Kinds.{kind_text, kind_named, kind_number, kind_numbered, form_of, exclusion_of, vertex_value_of, edge_use_of, asks_conservative, searches_of, gadget_of}
+use Rattle.mb_problem.specs.Kinds.{kind_text, kind_named, kind_number, kind_numbered, form_of, obstruction_of, vertex_value_of, edge_use_of, asks_conservative, searches_of, gadget_of}
 use Rattle.mb_problem.specs.Kinds.{proof_of, are_duals, need_of, start_of}
 use Rattle.mb_problem.specs.Words.{IsField}
 use Rattle.mb_problem.specs.Network.{Network, IsNetwork, graph_of, instance_edge_at, high_of}
@@ -284,7 +284,7 @@ only-gallai Bottleneck is = absurd (cc)
 only-gallai Gallai is = refl
 
 -- some answer is feasible, where nothing excludes answers
-pub never-excluded : (kind : Kind) (i : Network) → exclusion_of kind ≡ Never → (answer : Answer) × IsFeasible kind i answer
+pub never-excluded : (kind : Kind) (i : Network) → obstruction_of kind ≡ Never → (answer : Answer) × IsFeasible kind i answer
 never-excluded Perfect i is = absurd (cc)
 never-excluded Match i is = (Counts (replicate {A = ℕ} (length i.edges) 0), empty-matching i)
 never-excluded BMatch i is = absurd (cc)
@@ -300,7 +300,7 @@ never-excluded Bottleneck i is = absurd (cc)
 never-excluded Gallai i is = (Counts (replicate {A = ℕ} (length i.edges) 0), empty-matching i)
 
 -- an odd part excludes all answers of a kind that odd parts exclude
-pub odd-excludes : (kind : Kind) (i : Network) (set : List ℕ) (answer : Answer) → exclusion_of kind ≡ OddPart → IsNetwork i → IsOddPart (graph_of i) (has_odd_value i) set
+pub odd-excludes : (kind : Kind) (i : Network) (set : List ℕ) (answer : Answer) → obstruction_of kind ≡ OddPart → IsNetwork i → IsOddPart (graph_of i) (has_odd_value i) set
     → IsFeasible kind i answer → ⊥
 odd-excludes Perfect i set answer is ok part f = absurd (cc)
 odd-excludes Match i set answer is ok part f = absurd (cc)
@@ -321,7 +321,7 @@ odd-excludes Path i set (Walk start edges) is ok part f = odd_part-path i set st
 odd-excludes Path i set Nothing is ok part f = f
 
 -- and a split part of one that split parts exclude
-pub split-excludes : (kind : Kind) (i : Network) (set : List ℕ) (answer : Answer) → exclusion_of kind ≡ SplitPart → IsSplitPart (graph_of i) set → IsFeasible kind i answer → ⊥
+pub split-excludes : (kind : Kind) (i : Network) (set : List ℕ) (answer : Answer) → obstruction_of kind ≡ SplitPart → IsSplitPart (graph_of i) set → IsFeasible kind i answer → ⊥
 split-excludes Perfect i set answer is part f = absurd (cc)
 split-excludes Match i set answer is part f = absurd (cc)
 split-excludes BMatch i set answer is part f = absurd (cc)
@@ -339,7 +339,7 @@ split-excludes Postman i set (Walk start edges) is part f = split_part-tour i se
 split-excludes Postman i set Nothing is part f = split_part-none i set part f
 
 -- where an odd part excludes answers, the graph of certificates is one of ports whose parity is that of the values
-pub odd-ports : (kind : Kind) → exclusion_of kind ≡ OddPart → (gadget_of kind ≡ Ports Values) ⊎ (gadget_of kind ≡ PathPorts)
+pub odd-ports : (kind : Kind) → obstruction_of kind ≡ OddPart → (gadget_of kind ≡ Ports Values) ⊎ (gadget_of kind ≡ PathPorts)
 odd-ports Perfect is = absurd (cc)
 odd-ports Match is = absurd (cc)
 odd-ports BMatch is = absurd (cc)
@@ -355,7 +355,7 @@ odd-ports Bottleneck is = absurd (cc)
 odd-ports Gallai is = absurd (cc)
 
 -- and where a split part does, that of the numbers of edges
-pub split-ports : (kind : Kind) → exclusion_of kind ≡ SplitPart → gadget_of kind ≡ Ports OddDegrees
+pub split-ports : (kind : Kind) → obstruction_of kind ≡ SplitPart → gadget_of kind ≡ Ports OddDegrees
 split-ports Perfect is = absurd (cc)
 split-ports Match is = absurd (cc)
 split-ports BMatch is = absurd (cc)
@@ -482,7 +482,7 @@ pub record IsReadLike (kind first : Kind) : Type 0 where
   pub feasible : (i : Network) (answer : Answer) → IsFeasible first i answer → IsFeasible kind i answer
   pub value : (i : Network) (answer : Answer) → value_for first i (weight_of first i answer) ≡ value_for kind i (weight_of kind i answer)
   pub form : form_of first ≡ form_of kind
-  pub exclusion : exclusion_of first ≡ exclusion_of kind
+  pub obstruction : obstruction_of first ≡ obstruction_of kind
   pub conservative : asks_conservative first ≡ asks_conservative kind
   pub start : start_of first ≡ start_of kind
 
@@ -503,7 +503,7 @@ read_as_itself kind duals = record {
   feasible = λ i answer f. f;
   value = λ i answer. refl;
   form = refl;
-  exclusion = refl;
+  obstruction = refl;
   conservative = refl;
   start = refl;
 }

@@ -8,16 +8,16 @@ use Rattle.graph_theory.specs.Graph.{degree, weight, IsPerfect}
 use Rattle.graph_theory.specs.Parts.{holds}
 use Rattle.graph_theory.specs.Walk.{IsWalk, walk_end, walk_vertices, walk_weight, IsClosedWalk}
 use Rattle.graph_theory.specs.Walk.{AllDiffer}
-use Rattle.outer_sets.specs.Matchings.{edges_used}
+use Rattle.gallai_theory.specs.Matchings.{edges_used}
 use Rattle.mb_problem.specs.declared.kind.Kind.{Kind}
 use Rattle.mb_problem.specs.declared.kind.Kind.TheVariants.{Perfect, Match, BMatch, CapMatch}
 use Rattle.mb_problem.specs.declared.kind.Kind.TheVariants.{FFactor, TJoin, Postman, Path}
 use Rattle.mb_problem.specs.declared.kind.Kind.TheVariants.{Interval, OddPath, EvenPath}
 use Rattle.mb_problem.specs.declared.kind.Kind.TheVariants.{Bottleneck, Gallai}
-use Rattle.mb_problem.specs.declared.kind.Measure.{Measure}
-use Rattle.mb_problem.specs.declared.kind.Measure.TheVariants.{Total, Heaviest, Size}
-use Rattle.mb_problem.specs.declared.kind.Sense.{Sense}
-use Rattle.mb_problem.specs.declared.kind.Sense.TheVariants.{Least, Greatest}
+use Rattle.mb_problem.specs.declared.kind.Cost.{Cost}
+use Rattle.mb_problem.specs.declared.kind.Cost.TheVariants.{Total, Heaviest, Size}
+use Rattle.mb_problem.specs.declared.kind.Objective.{Objective}
+use Rattle.mb_problem.specs.declared.kind.Objective.TheVariants.{Least, Greatest}
 use Rattle.mb_problem.specs.declared.answer.Answer.{Answer}
 use Rattle.mb_problem.specs.declared.answer.Answer.TheVariants.{Counts, Walk, Nothing}
 use Rattle.mb_problem.specs.Network.{Network, vertices, graph_of, value_of, low_of, high_of}
@@ -121,7 +121,7 @@ IsFeasible Gallai i answer = AreCounts (IsMatching i) answer
 
 -- the weights of the edges, each as often as the answer uses it, added up; or the greatest of them;
 -- or how many edges are used, of a walk each as often as it is
-abbrev pub weight_by : Measure → Network → Answer → ℤ
+abbrev pub weight_by : Cost → Network → Answer → ℤ
 weight_by Total i (Counts counts) = weight (graph_of i) counts
 weight_by Total i (Walk start edges) = walk_weight (graph_of i) edges
 weight_by Total i Nothing = pos 0
@@ -137,7 +137,7 @@ abbrev pub weight_of : Kind → Network → Answer → ℤ
 weight_of kind i answer = weight_by (measure_of kind) i answer
 
 -- the one weight is at least as good as the other
-abbrev pub IsAsGoodBy : Sense → ℤ → ℤ → Type 0
+abbrev pub IsAsGoodBy : Objective → ℤ → ℤ → Type 0
 IsAsGoodBy Least one other = one ≤ℤ other
 IsAsGoodBy Greatest one other = other ≤ℤ one
 

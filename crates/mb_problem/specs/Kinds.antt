@@ -8,24 +8,25 @@ use Rattle.mb_problem.specs.declared.kind.Kind.TheVariants.{Interval, OddPath, E
 use Rattle.mb_problem.specs.declared.kind.Kind.TheVariants.{Bottleneck, Gallai}
 use Rattle.mb_problem.specs.declared.kind.AnswerForm.{AnswerForm}
 use Rattle.mb_problem.specs.declared.kind.AnswerForm.TheVariants as form
-use Rattle.mb_problem.specs.declared.kind.Sense.{Sense}
-use Rattle.mb_problem.specs.declared.kind.Sense.TheVariants.{Least, Greatest}
-use Rattle.mb_problem.specs.declared.kind.Exclusion.{Exclusion}
-use Rattle.mb_problem.specs.declared.kind.Exclusion.TheVariants.{Barrier, OddPart, SplitPart, Never}
-use Rattle.mb_problem.specs.declared.kind.Need.{Need}
-use Rattle.mb_problem.specs.declared.kind.Need.TheVariants as need
+use Rattle.mb_problem.specs.declared.kind.Objective.{Objective}
+use Rattle.mb_problem.specs.declared.kind.Objective.TheVariants.{Least, Greatest}
+use Rattle.mb_problem.specs.declared.kind.Obstruction.{Obstruction}
+use Rattle.mb_problem.specs.declared.kind.Obstruction.TheVariants.{Barrier, OddPart, SplitPart}
+use Rattle.mb_problem.specs.declared.kind.Obstruction.TheVariants.{Never}
+use Rattle.mb_problem.specs.declared.kind.Precondition.{Precondition}
+use Rattle.mb_problem.specs.declared.kind.Precondition.TheVariants as need
 use Rattle.mb_problem.specs.declared.kind.VertexValue.{VertexValue}
 use Rattle.mb_problem.specs.declared.kind.VertexValue.TheVariants as value
 use Rattle.mb_problem.specs.declared.kind.EdgeUse.{EdgeUse}
 use Rattle.mb_problem.specs.declared.kind.EdgeUse.TheVariants as use_of
-use Rattle.mb_problem.specs.declared.kind.Measure.{Measure}
-use Rattle.mb_problem.specs.declared.kind.Measure.TheVariants.{Total, Heaviest, Size}
+use Rattle.mb_problem.specs.declared.kind.Cost.{Cost}
+use Rattle.mb_problem.specs.declared.kind.Cost.TheVariants.{Total, Heaviest, Size}
 use Rattle.mb_problem.specs.declared.kind.DualValue.TheVariants.{Twice, Opposite, BesideAll}
 use Rattle.mb_problem.specs.declared.kind.DualValue.TheVariants.{FourTimes}
 use Rattle.mb_problem.specs.declared.kind.BestProof.{BestProof}
 use Rattle.mb_problem.specs.declared.kind.BestProof.TheVariants.{Duals, LighterBarrier, OuterPaths}
-use Rattle.mb_problem.specs.declared.kind.Start.{Start}
-use Rattle.mb_problem.specs.declared.kind.Start.TheVariants.{Free, LeastMet, LesserEnd}
+use Rattle.mb_problem.specs.declared.kind.WalkStart.{WalkStart}
+use Rattle.mb_problem.specs.declared.kind.WalkStart.TheVariants.{Free, LeastMet, LesserEnd}
 use Rattle.mb_problem.specs.declared.gadget.GadgetForm.{GadgetForm}
 use Rattle.mb_problem.specs.declared.gadget.GadgetForm.TheVariants.{Itself, Doubled, Copies, Capped}
 use Rattle.mb_problem.specs.declared.gadget.GadgetForm.TheVariants.{Ports, PathPorts, Halves, Sides}
@@ -120,23 +121,23 @@ form_of Bottleneck = form.Counts
 form_of Gallai = form.Counts
 
 -- what proves that there is no feasible answer
-abbrev pub exclusion_of : Kind → Exclusion
-exclusion_of Perfect = Barrier
-exclusion_of Match = Never
-exclusion_of BMatch = Barrier
-exclusion_of CapMatch = Barrier
-exclusion_of FFactor = Barrier
-exclusion_of TJoin = OddPart
-exclusion_of Postman = SplitPart
-exclusion_of Path = OddPart
-exclusion_of Interval = Barrier
-exclusion_of OddPath = Barrier
-exclusion_of EvenPath = Barrier
-exclusion_of Bottleneck = Barrier
-exclusion_of Gallai = Never
+abbrev pub obstruction_of : Kind → Obstruction
+obstruction_of Perfect = Barrier
+obstruction_of Match = Never
+obstruction_of BMatch = Barrier
+obstruction_of CapMatch = Barrier
+obstruction_of FFactor = Barrier
+obstruction_of TJoin = OddPart
+obstruction_of Postman = SplitPart
+obstruction_of Path = OddPart
+obstruction_of Interval = Barrier
+obstruction_of OddPath = Barrier
+obstruction_of EvenPath = Barrier
+obstruction_of Bottleneck = Barrier
+obstruction_of Gallai = Never
 
 -- what an instance must have besides
-abbrev pub need_of : Kind → Need
+abbrev pub need_of : Kind → Precondition
 need_of Perfect = need.Unrestricted
 need_of Match = need.Unrestricted
 need_of BMatch = need.Unrestricted
@@ -206,7 +207,7 @@ edge_use_of Bottleneck = use_of.Once
 edge_use_of Gallai = use_of.Once
 
 -- whether a best answer weighs the least or the most
-abbrev pub sense_of : Kind → Sense
+abbrev pub sense_of : Kind → Objective
 sense_of Perfect = Least
 sense_of Match = Greatest
 sense_of BMatch = Least
@@ -238,7 +239,7 @@ gadget_of Bottleneck = Itself
 gadget_of Gallai = Unweighted
 
 -- what an answer weighs
-abbrev pub measure_of : Kind → Measure
+abbrev pub measure_of : Kind → Cost
 measure_of Perfect = Total
 measure_of Match = Total
 measure_of BMatch = Total
@@ -292,7 +293,7 @@ asks_conservative Bottleneck = false
 asks_conservative Gallai = false
 
 -- where the walk of a solved document starts
-abbrev pub start_of : Kind → Start
+abbrev pub start_of : Kind → WalkStart
 start_of Perfect = Free
 start_of Match = Free
 start_of BMatch = Free

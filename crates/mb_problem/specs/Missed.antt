@@ -3,7 +3,7 @@
 use Rattle.std.specs.Prelude.{◌≡◌, ℕ, ◌≤◌, true, List, ◌↔◌}
 use Rattle.graph_theory.specs.Graph.{degree}
 use Rattle.graph_theory.specs.Parts.{holds}
-use Rattle.outer_sets.specs.Matchings.{IsBorder}
+use Rattle.gallai_theory.specs.Matchings.{IsBorder}
 use Rattle.mb_problem.specs.declared.kind.Kind.TheVariants.{Gallai}
 use Rattle.mb_problem.specs.declared.answer.Answer.TheVariants.{Counts}
 use Rattle.mb_problem.specs.Network.{Network, vertices, graph_of}

@@ -1,9 +1,10 @@
 -- What an instance of a kind has besides the ranges that every instance keeps.
 use Rattle.std.specs.Prelude.{ℕ, pos, ◌≤ℤ◌, All, ⊤}
 use Rattle.mb_problem.specs.declared.kind.Kind.{Kind}
-use Rattle.mb_problem.specs.declared.kind.Need.{Need}
-use Rattle.mb_problem.specs.declared.kind.Need.TheVariants.{Unrestricted, WeightsFromZero, Ends}
-use Rattle.mb_problem.specs.declared.kind.Need.TheVariants.{EndsAndWeightsFromZero}
+use Rattle.mb_problem.specs.declared.kind.Precondition.{Precondition}
+use Rattle.mb_problem.specs.declared.kind.Precondition.TheVariants.{Unrestricted, WeightsFromZero}
+use Rattle.mb_problem.specs.declared.kind.Precondition.TheVariants.{Ends}
+use Rattle.mb_problem.specs.declared.kind.Precondition.TheVariants.{EndsAndWeightsFromZero}
 use Rattle.mb_problem.specs.declared.instance.InstanceEdge.{InstanceEdge}
 use Rattle.mb_problem.specs.Kinds.{need_of}
 use Rattle.mb_problem.specs.Network.{Network}
@@ -18,14 +19,14 @@ abbrev pub HasEnds : Network → Type 0
 HasEnds i = (s : ℕ) × (t : ℕ) × AreEnds i s t
 
 -- no edge weighs less than 0, if that is needed
-abbrev pub HasWeightsBy : Need → Network → Type 0
+abbrev pub HasWeightsBy : Precondition → Network → Type 0
 HasWeightsBy Unrestricted i = ⊤
 HasWeightsBy WeightsFromZero i = HasWeightsFromZero i
 HasWeightsBy Ends i = ⊤
 HasWeightsBy EndsAndWeightsFromZero i = HasWeightsFromZero i
 
 -- two values are odd, if that is needed
-abbrev pub HasEndsBy : Need → Network → Type 0
+abbrev pub HasEndsBy : Precondition → Network → Type 0
 HasEndsBy Unrestricted i = ⊤
 HasEndsBy WeightsFromZero i = ⊤
 HasEndsBy Ends i = HasEnds i

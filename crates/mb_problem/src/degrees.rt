@@ -14,7 +14,7 @@ use std::alloc::Global;
 fn add_at(degrees: &mut [u64], v: VertexId, count: u32)
     requires low { 1 ≤ v }
     requires high { v ≤ length degrees.old }
-    requires small { slice_index degrees.old (v - 1) < 2 ^ 63 }
+    requires value_limit { slice_index degrees.old (v - 1) < 2 ^ 63 }
     ensures size { length degrees.new ≡ length degrees.old }
     ensures each { (k : ℕ) → k < length degrees.old → slice_index degrees.new k
         ≡ slice_index degrees.old k + (if v == k + 1 then count else 0) }
@@ -25,7 +25,7 @@ fn add_at(degrees: &mut [u64], v: VertexId, count: u32)
 /// Adds a count to the degrees of both ends of an edge.
 fn add_edge(degrees: &mut [u64], edge: &InstanceEdge, count: u32)
     requires ends { IsEdgeWithin (length degrees.old) (plain edge.now) }
-    requires small { (k : ℕ) → k < length degrees.old → slice_index degrees.old k < 2 ^ 62 }
+    requires value_limit { (k : ℕ) → k < length degrees.old → slice_index degrees.old k < 2 ^ 62 }
     ensures size { length degrees.new ≡ length degrees.old }
     ensures each { (k : ℕ) → k < length degrees.old → slice_index degrees.new k
         ≡ slice_index degrees.old k + count * ends_at (plain edge.now) (k + 1) }
@@ -68,7 +68,7 @@ pub fn count_edges(degrees: &mut [u64], instance: &Instance)
     ensures size { length degrees.new ≡ length degrees.old }
     ensures counts { (k : ℕ) → k < vertices instance.now → slice_index degrees.new k
         ≡ edge_count_at instance.now (k + 1) }
-    ensures small { (k : ℕ) → k < vertices instance.now → slice_index degrees.new k
+    ensures value_limit { (k : ℕ) → k < vertices instance.now → slice_index degrees.new k
         ≤ 2 * EDGE_LIMIT }
 {
     for edge in instance.edge_list() {

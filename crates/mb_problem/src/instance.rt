@@ -61,7 +61,7 @@ impl Instance {
     /// An instance of n vertices, each of this value and of a degree from 0 to 1, and no edges.
     pub fn new(alloc: Global, n: u32, value: u32) -> Result<Instance, OutOfMemory>
         requires vertices { n ≤ VERTEX_LIMIT }
-        requires small { value ≤ VALUE_LIMIT }
+        requires value_limit { value ≤ VALUE_LIMIT }
         ensures { IfOk result (λ i. i ≡ record {
           edges = [];
           values = replicate n value;
@@ -173,7 +173,7 @@ impl Instance {
     pub fn set_value(&mut self, v: VertexId, value: u32)
         requires low { 1 ≤ v }
         requires high { v ≤ vertices self.old }
-        requires small { value ≤ VALUE_LIMIT }
+        requires value_limit { value ≤ VALUE_LIMIT }
         ensures set { self.new
             ≡ record self.old { values = slice_set self.old.values (v - 1) value } }
         ensures network { IsNetwork self.new }
@@ -186,7 +186,7 @@ impl Instance {
         requires first { 1 ≤ v }
         requires last { v ≤ vertices self.old }
         requires ordered { low ≤ high }
-        requires small { high ≤ VALUE_LIMIT }
+        requires value_limit { high ≤ VALUE_LIMIT }
         ensures set { self.new ≡ record self.old {
           lows = slice_set self.old.lows (v - 1) low;
           highs = slice_set self.old.highs (v - 1) high;
@@ -308,7 +308,7 @@ impl Instance {
     /// The graph of the instance without its loops, in the order of their numbers.
     pub fn plain(&self) -> Result<Graph, OutOfMemory>
         ensures graph { IfOk result (λ g. g ≡ plain_graph self.now) }
-        ensures plain { IfOk result HasNoLoop }
+        ensures loopless { IfOk result HasNoLoop }
     {
         let mut graph = Graph::new(self.alloc, self.vertices());
         for edge in self.edge_list() {

@@ -2,7 +2,7 @@ ghost use Rattle.std.specs.Prelude.{◌≡◌, ◌≤◌, bytes_eq, length, Some
 ghost use Rattle.mb_problem.specs.Words.{IsField};
 ghost use Rattle.mb_problem.specs.Kinds.{kind_text, kind_named, kind_named_from_postman};
 ghost use Rattle.mb_problem.specs.Kinds.{kind_number, kind_numbered};
-ghost use Rattle.mb_problem.specs.Kinds.{form_of, exclusion_of, sense_of, measure_of, proof_of};
+ghost use Rattle.mb_problem.specs.Kinds.{form_of, obstruction_of, sense_of, measure_of, proof_of};
 ghost use Rattle.mb_problem.specs.Kinds.{gadget_of, need_of, vertex_value_of, default_value_of};
 ghost use Rattle.mb_problem.specs.Kinds.{has_bounds, are_duals};
 ghost use Rattle.mb_problem.specs.Kinds.{edge_use_of, start_of, asks_conservative, searches_of};
@@ -54,7 +54,7 @@ pub enum AnswerForm {
 
 /// Which answers of a kind are best.
 #[derive(Clone, Copy)]
-pub enum Sense {
+pub enum Objective {
     /// Those of least weight.
     Least,
     /// Those of greatest weight.
@@ -63,7 +63,7 @@ pub enum Sense {
 
 /// What proves that an instance has no feasible answer of a kind.
 #[derive(Clone, Copy, PartialEq, Eq)]
-pub enum Exclusion {
+pub enum Obstruction {
     /// A barrier of the certificate graph.
     Barrier,
     /// A set that no edge leaves, with an odd number of vertices of T.
@@ -76,7 +76,7 @@ pub enum Exclusion {
 
 /// What an instance must have besides, for a kind.
 #[derive(Clone, Copy)]
-pub enum Need {
+pub enum Precondition {
     /// Nothing.
     Unrestricted,
     /// No edge of negative weight.
@@ -117,7 +117,7 @@ pub enum EdgeUse {
 
 /// What an answer weighs.
 #[derive(Clone, Copy)]
-pub enum Measure {
+pub enum Cost {
     /// The weights of the edges, each as often as it is used, added up.
     Total,
     /// The greatest weight of an edge that is used, and 0 if none is.
@@ -166,7 +166,7 @@ impl BestProof {
 
 /// Where the walk of a solved document starts.
 #[derive(Clone, Copy)]
-pub enum Start {
+pub enum WalkStart {
     /// Anywhere, if there is a walk at all.
     Free,
     /// At the least vertex that an edge meets.
@@ -325,8 +325,8 @@ impl Kind {
     }
 
     /// What proves that there is no feasible answer.
-    pub fn exclusion(self) -> Exclusion
-        ensures { result ≡ exclusion_of self }
+    pub fn obstruction(self) -> Obstruction
+        ensures { result ≡ obstruction_of self }
     {
         match self {
             Kind::Perfect
@@ -336,21 +336,21 @@ impl Kind {
             | Kind::Interval
             | Kind::OddPath
             | Kind::EvenPath
-            | Kind::Bottleneck => Exclusion::Barrier,
-            Kind::Match | Kind::Gallai => Exclusion::Never,
-            Kind::TJoin | Kind::Path => Exclusion::OddPart,
-            Kind::Postman => Exclusion::SplitPart,
+            | Kind::Bottleneck => Obstruction::Barrier,
+            Kind::Match | Kind::Gallai => Obstruction::Never,
+            Kind::TJoin | Kind::Path => Obstruction::OddPart,
+            Kind::Postman => Obstruction::SplitPart,
         }
     }
 
     /// What an instance must have besides.
-    pub fn needs(self) -> Need
+    pub fn needs(self) -> Precondition
         ensures { result ≡ need_of self }
     {
         match self {
-            Kind::Postman => Need::WeightsFromZero,
-            Kind::Path => Need::Ends,
-            Kind::OddPath | Kind::EvenPath => Need::EndsAndWeightsFromZero,
+            Kind::Postman => Precondition::WeightsFromZero,
+            Kind::Path => Precondition::Ends,
+            Kind::OddPath | Kind::EvenPath => Precondition::EndsAndWeightsFromZero,
             Kind::Perfect
             | Kind::Match
             | Kind::BMatch
@@ -359,7 +359,7 @@ impl Kind {
             | Kind::TJoin
             | Kind::Interval
             | Kind::Bottleneck
-            | Kind::Gallai => Need::Unrestricted,
+            | Kind::Gallai => Precondition::Unrestricted,
         }
     }
 
@@ -424,11 +424,11 @@ impl Kind {
     }
 
     /// Whether a best answer weighs the least or the most.
-    pub fn sense(self) -> Sense
+    pub fn sense(self) -> Objective
         ensures { result ≡ sense_of self }
     {
         match self {
-            Kind::Match | Kind::Gallai => Sense::Greatest,
+            Kind::Match | Kind::Gallai => Objective::Greatest,
             Kind::Perfect
             | Kind::BMatch
             | Kind::CapMatch
@@ -439,7 +439,7 @@ impl Kind {
             | Kind::Interval
             | Kind::OddPath
             | Kind::EvenPath
-            | Kind::Bottleneck => Sense::Least,
+            | Kind::Bottleneck => Objective::Least,
         }
     }
 
@@ -464,7 +464,7 @@ impl Kind {
     }
 
     /// What an answer weighs.
-    pub fn measure(self) -> Measure
+    pub fn measure(self) -> Cost
         ensures { result ≡ measure_of self }
     {
         match self {
@@ -478,9 +478,9 @@ impl Kind {
             | Kind::Path
             | Kind::Interval
             | Kind::OddPath
-            | Kind::EvenPath => Measure::Total,
-            Kind::Bottleneck => Measure::Heaviest,
-            Kind::Gallai => Measure::Size,
+            | Kind::EvenPath => Cost::Total,
+            Kind::Bottleneck => Cost::Heaviest,
+            Kind::Gallai => Cost::Size,
         }
     }
 
@@ -528,12 +528,12 @@ impl Kind {
     }
 
     /// Where the walk of a solved document starts.
-    pub fn start(self) -> Start
+    pub fn start(self) -> WalkStart
         ensures { result ≡ start_of self }
     {
         match self {
-            Kind::Postman => Start::LeastMet,
-            Kind::Path | Kind::OddPath | Kind::EvenPath => Start::LesserEnd,
+            Kind::Postman => WalkStart::LeastMet,
+            Kind::Path | Kind::OddPath | Kind::EvenPath => WalkStart::LesserEnd,
             Kind::Perfect
             | Kind::Match
             | Kind::BMatch
@@ -542,7 +542,7 @@ impl Kind {
             | Kind::TJoin
             | Kind::Interval
             | Kind::Bottleneck
-            | Kind::Gallai => Start::Free,
+            | Kind::Gallai => WalkStart::Free,
         }
     }
 

@@ -3,22 +3,22 @@ ghost use Rattle.std.specs.Prelude.{◌≤ℤ◌, All, Some, None, nat_lt, unwra
 ghost use Rattle.std.specs.Prelude.{if◌then◌else◌};
 ghost use Rattle.graph_theory.specs.Graph.{degree, ends_at, weight, IsEdgeNumber};
 ghost use Rattle.graph_theory.specs.Walk.{walk_weight};
-ghost use Rattle.outer_sets.specs.Matchings.{edges_used};
+ghost use Rattle.gallai_theory.specs.Matchings.{edges_used};
 ghost use Rattle.mb_problem.specs.Network.{Network, IsNetwork, graph_of, plain};
 ghost use Rattle.mb_problem.specs.Feasible.{weight_by, weight_of};
-ghost use Rattle.mb_problem.specs.declared.kind.Measure.TheVariants.{Total, Heaviest, Size};
+ghost use Rattle.mb_problem.specs.declared.kind.Cost.TheVariants.{Total, Heaviest, Size};
 ghost use Rattle.mb_problem.specs.Heaviest.{heaviest, heaviest_step, greater_of};
 ghost use Rattle.mb_problem.specs.Measured.{HasPlaces};
 
 use crate::answer::Answer;
 use crate::instance::{Instance, InstanceEdge};
-use crate::kind::{Kind, Measure};
+use crate::kind::{Cost, Kind};
 use mb_base::{EdgeId, VertexId};
 
 /// How many ends of an edge are this vertex.
 fn ends_at(edge: &InstanceEdge, v: VertexId) -> u64
     ensures ends { result ≡ ends_at (plain edge.now) v }
-    ensures small { result ≤ 2 }
+    ensures value_limit { result ≤ 2 }
 {
     u64::from(edge.u == v) + u64::from(edge.v == v)
 }
@@ -149,7 +149,7 @@ fn heaviest(instance: &Instance, answer: &Answer) -> i128
 /// 1 where an edge is used so often, and 0 if it isn't.
 fn one_if_used(count: u32) -> u32
     ensures one { result ≡ (if nat_lt 0 count then 1 else 0) }
-    ensures small { result ≤ 1 }
+    ensures value_limit { result ≤ 1 }
 {
     u32::from(count > 0)
 }
@@ -186,8 +186,8 @@ pub fn weight(instance: &Instance, kind: Kind, answer: &Answer) -> i128
     ensures { result ≡ weight_of kind instance.now answer.now }
 {
     match kind.measure() {
-        Measure::Total => total(instance, answer),
-        Measure::Heaviest => heaviest(instance, answer),
-        Measure::Size => size(instance, answer),
+        Cost::Total => total(instance, answer),
+        Cost::Heaviest => heaviest(instance, answer),
+        Cost::Size => size(instance, answer),
     }
 }

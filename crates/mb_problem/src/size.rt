@@ -8,13 +8,13 @@ ghost use Rattle.mb_problem.specs.Size.{certified_by, certified_size};
 ghost use Rattle.mb_problem.specs.Size.{edge_count_at, port_count, link_count, copy_pairs};
 
 use crate::answer::Parity;
+use crate::copy_sizes::{capped_size, end_values, halves_size, value_total};
 use crate::degrees::count_edges;
 use crate::gadget::GadgetForm;
-use crate::gates::{capped_size, end_values, halves_size, value_total};
 use crate::instance::{Instance, InstanceEdge};
 use crate::kind::Kind;
+use crate::layer_sizes::sides_size;
 use crate::limits::{EDGE_LIMIT, VALUE_LIMIT, VERTEX_LIMIT};
-use crate::sides::sides_size;
 
 /// How many pairs the copies of the ends of an edge have: of a loop, those of two different copies
 /// of its end.
@@ -23,7 +23,7 @@ pub fn copy_pairs(instance: &Instance, edge: &InstanceEdge) -> u64
     ensures pairs { result ≡ (if is_loop (plain edge.now) then value_of instance.now edge.now.u
         * (value_of instance.now edge.now.u - 1) / 2
         else value_of instance.now edge.now.u * value_of instance.now edge.now.v) }
-    ensures small { result ≤ VALUE_LIMIT * VALUE_LIMIT }
+    ensures value_limit { result ≤ VALUE_LIMIT * VALUE_LIMIT }
 {
     let (a, b) = end_values(instance.value_list(), edge);
     if edge.u == edge.v {
@@ -46,7 +46,7 @@ fn copied_edges(instance: &Instance) -> u64
 /// How many edges are no loops.
 pub fn link_count(instance: &Instance) -> u64
     ensures count { result ≡ link_count instance.now }
-    ensures few { result ≤ length instance.now.edges }
+    ensures size_limit { result ≤ length instance.now.edges }
 {
     let mut count = 0;
     for edge in instance.edge_list() {
@@ -73,7 +73,7 @@ pub fn odd_by(parity: Parity, degree: u64, value: u32) -> u64
 pub fn ports_by(parity: Parity, degree: u64, value: u32) -> u64
     requires { degree ≤ 2 * EDGE_LIMIT }
     ensures ports { result ≡ degree + (degree + odd_by parity degree value) % 2 }
-    ensures small { result ≤ 2 * EDGE_LIMIT + 1 }
+    ensures value_limit { result ≤ 2 * EDGE_LIMIT + 1 }
 {
     degree + (degree + odd_by(parity, degree, value)) % 2
 }
@@ -82,7 +82,7 @@ pub fn ports_by(parity: Parity, degree: u64, value: u32) -> u64
 fn pairs_of(count: u64) -> u64
     requires { count ≤ 2 * EDGE_LIMIT + 1 }
     ensures pairs { result ≡ count * (count - 1) / 2 }
-    ensures small { result ≤ (2 * EDGE_LIMIT + 1) * (2 * EDGE_LIMIT + 1) }
+    ensures value_limit { result ≤ (2 * EDGE_LIMIT + 1) * (2 * EDGE_LIMIT + 1) }
 {
     count * count.saturating_sub(1) / 2
 }
@@ -93,7 +93,7 @@ fn all_ports(instance: &Instance, parity: Parity, degrees: &[u64]) -> (u64, u64)
     requires room { vertices instance.now ≤ length degrees.now }
     requires counts { (k : ℕ) → k < vertices instance.now → slice_index degrees.now k
         ≡ edge_count_at instance.now (k + 1) }
-    requires small { (k : ℕ) → k < vertices instance.now → slice_index degrees.now k
+    requires value_limit { (k : ℕ) → k < vertices instance.now → slice_index degrees.now k
         ≤ 2 * EDGE_LIMIT }
     ensures ports { result.0 ≡ sum_to (λ k. port_count instance.now (odd_at parity instance.now)
         (k + 1)) (vertices instance.now) }

@@ -7,7 +7,7 @@ use Rattle.dual_change.specs.Changes.{IsStuck}
 use Rattle.dual_change.specs.Laws.{inner_vertices}
 use Rattle.dual_change.proofs.Barrier.{inner_vertex}
 use Rattle.dual_change.proofs.Least.{stuck_none}
-use Rattle.outer_sets.specs.Matchings.{IsBeside, IsBorder}
+use Rattle.gallai_theory.specs.Matchings.{IsBeside, IsBorder}
 use Rattle.alt_forest.proofs.Leads.{leads_touch, leads_end}
 use Rattle.mwpm_engine.specs.Solving.{labelled_vertices, outer_vertices}
 

@@ -1,5 +1,5 @@
 -- The duals stay bounded when an event happens.
-use Rattle.alt_forest.proofs.Common.{◌≡◌, ◌≢◌, ◌∙◌, ℤ, sym, ap, subst, Multigraph, Family, dual_at, IsSound, state_of, is_given, tree_count, IsPlanted, IsStanding}
+use Rattle.alt_forest.proofs.Common.{◌≡◌, ◌≢◌, ◌∙◌, ℤ, sym, ap, subst, Multigraph, Family, dual_at, IsSound, state_of, is_given, tree_count, IsPlanted, HasTreeNodes}
 use Rattle.alt_forest.specs.declared.search.Search.{Search}
 use Rattle.alt_forest.specs.declared.weights.Weights.{Weights}
 use Rattle.pass_parts.specs.Bounds.{IsBounded}
@@ -33,12 +33,12 @@ pub still_bounded : (s t : Search) → t.arena ≡ record s.arena { motions = t.
 still_bounded s t arena same = duals_bounded s t (arena_duals s t arena same) same
 
 -- where a step keeps the duals and some tree, the forest grows on
-pub grows_still : (s t : Search) → IsForest s → IsSound t → IsStanding t → (IsPlanted (state_of s) → IsPlanted (state_of t)) → tree_count (state_of t) ≢ 0
+pub grows_still : (s t : Search) → IsForest s → IsSound t → HasTreeNodes t → (IsPlanted (state_of s) → IsPlanted (state_of t)) → tree_count (state_of t) ≢ 0
     → KeepsDuals (state_of s) (state_of t) → IsSamePass s t → t.clock ≡ s.clock → IsForest t
-grows_still s t h sound standing planted some duals same clock = record {
+grows_still s t h sound tree_nodes planted some duals same clock = record {
   sound = sound;
-  standing = standing;
-  planted = planted h.planted;
+  listed = tree_nodes;
+  all_rooted = planted h.all_rooted;
   trees = some;
   bounded = duals_bounded s t duals same h.bounded;
   timed = subst (λ y. IsTimed (state_of t) y t.clock) (sym same.start)
@@ -46,6 +46,6 @@ grows_still s t h sound standing planted some duals same clock = record {
 }
 
 -- and so where it keeps the number of trees
-pub grows_same : (s t : Search) → IsForest s → IsSound t → IsStanding t → (IsPlanted (state_of s) → IsPlanted (state_of t)) → tree_count (state_of t) ≡ tree_count (state_of s)
+pub grows_same : (s t : Search) → IsForest s → IsSound t → HasTreeNodes t → (IsPlanted (state_of s) → IsPlanted (state_of t)) → tree_count (state_of t) ≡ tree_count (state_of s)
     → KeepsDuals (state_of s) (state_of t) → IsSamePass s t → t.clock ≡ s.clock → IsForest t
-grows_same s t h sound standing planted trees = grows_still s t h sound standing planted (λ none. h.trees (sym trees ∙ none))
+grows_same s t h sound tree_nodes planted trees = grows_still s t h sound tree_nodes planted (λ none. h.trees (sym trees ∙ none))

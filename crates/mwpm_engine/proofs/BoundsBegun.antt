@@ -5,10 +5,10 @@ use Rattle.alt_forest.proofs.Common.{subst, arith, ints, ⊎_elim, vec_len, get_
 use Rattle.alt_forest.proofs.Common.{WEIGHT_LIMIT, dual_at, is_vertex, outermost, Label, Out, Moments, no_moments, state_of, dual_sum, node_limit, outer_not_out, inner_not_out}
 use Rattle.alt_forest.proofs.Fresh.{alone_dual_sum}
 use Rattle.alt_forest.specs.declared.search.Search.{Search}
-use Rattle.event_bounds.specs.declared.bounds.EventBounds.{EventBounds}
-use Rattle.event_bounds.specs.Bounds.{HasNearSums, HasPlaces, ComesUp, IsBounding, bound_of, hint_of, key_of}
-use Rattle.event_bounds.specs.Looks.{is_stale, is_stale_at, stale_ends}
-use Rattle.event_bounds.proofs.Gives.{key_none as no_key}
+use Rattle.search_keys.specs.declared.bounds.EventBounds.{EventBounds}
+use Rattle.search_keys.specs.Bounds.{HasNearSums, HasPlaces, ComesUp, IsBounding, bound_of, hint_of, key_of}
+use Rattle.search_keys.specs.Looks.{is_stale, is_stale_at, stale_ends}
+use Rattle.search_keys.proofs.Gives.{key_none as no_key}
 use Rattle.mwpm_engine.specs.Passes.{IsReady}
 
 -- what is cleared has its places
@@ -40,10 +40,11 @@ near_begun s alone clock in_range = record {
   high = λ v is. let sum = alone_dual_sum (state_of s) (dual_at s.arena.duals v) v alone refl in let own = in_range v is in omega (arith, ints, sum, own.1, clock);
 }
 
-pub begins_bounding : (s : Search) (b : EventBounds) (edges nodes : ℕ) → IsReady s → HasNearSums (state_of s) s.clock → HasPlaces s.graph b → b.moments ≡ no_moments edges nodes → ((v : ℕ) → hint_of b v ≡ 0) → IsBounding s b
+pub begins_bounding : (s : Search) (b : EventBounds) (edges nodes : ℕ) → IsReady s → HasNearSums (state_of s) s.clock → HasPlaces s.graph b → b.moments ≡ no_moments edges nodes
+    → ((v : ℕ) → hint_of b v ≡ 0) → IsBounding s b
 begins_bounding s b edges nodes ready near places moments none = record {
-  low = ready.queued.low;
-  high = ready.queued.high;
+  low = ready.event_times.low;
+  high = ready.event_times.high;
   near = near;
   places = places;
   hints = λ v vertex some. absurd (some (none v));
@@ -51,7 +52,7 @@ begins_bounding s b edges nodes ready near places moments none = record {
   vertices = λ v vertex new. comes_none ((state_of s).label (outermost s.arena.blossoms v)) (dual_sum (state_of s) v) s.clock (key_of b v) (bound_of b.moments v)
       (ready.labels (outermost s.arena.blossoms v)) (no_key b v (none v)) (ap (λ (q : Moments). bound_of q v) moments ∙ no_bound edges nodes v);
   blossoms = λ a name is lab. inner_not_out (sym lab ∙ ready.labels a);
-  unused = ready.queued.empty (λ a is. ready.labels a);
+  unused = ready.event_times.empty (λ a is. ready.labels a);
 }
 
 pub none_stale : (s : Search) (b : EventBounds) → ((v : ℕ) → hint_of b v ≡ 0) → stale_ends s b ≡ 0

@@ -111,7 +111,7 @@ solved s outcome done counts bounded =
       value = λ sets same.
           value_is s sets done counts (sets_listed ys bs bs sets known same) (each sets same) ∙ ap (λ c. pos 2 *ℤ weight s.graph c) (sym matching);
       nested = nested_sets n ys bs nested;
-      few = few_sets n ys bs nested;
+      size_limit = few_sets n ys bs nested;
       few_members = few_members n ys bs nested known;
       in_range = All-take IsNumber n (drop 1 ys) (All-drop IsNumber 1 ys duals.in_range);
       sets_in_range = each_set_dual IsNumber ys bs (λ a name. let range = name_range n bs a nested name in duals.in_range a (pos 0) (omega (arith, range.1, duals.one_each)));

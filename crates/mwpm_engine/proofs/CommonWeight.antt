@@ -28,7 +28,8 @@ module _ (s t : Search) (w : ℤ) (rest : t ≡ record s { arena = record s.aren
     mates = h.mates;
     perfect = h.perfect;
     tight = λ v e is has. let tight = h.tight v e is has in
-        subst (λ (x : Search). IsTight (state_of x) e) rest (record { edge = subst (λ (x : Search). IsEdgeNumber x.graph e) (sym rest) tight.edge; tight = slacks e tight.edge ∙ tight.tight });
+        subst (λ (x : Search). IsTight (state_of x) e) rest
+        (record { edge = subst (λ (x : Search). IsEdgeNumber x.graph e) (sym rest) tight.edge; tight = slacks e tight.edge ∙ tight.tight });
     leaves = h.leaves;
   })
 

@@ -4,8 +4,8 @@ use Rattle.alt_forest.proofs.Common.{Multigraph, degree, IsBarrier, barrier_excl
 use Rattle.alt_forest.specs.declared.search.Search.{Search}
 use Rattle.dual_change.specs.Laws.{inner_vertices}
 use Rattle.augment.specs.Matching.{mate_counts}
-use Rattle.outer_sets.specs.Matchings.{edges_used, IsMatched}
-use Rattle.outer_sets.specs.Decomposition.{IsDecomposed}
+use Rattle.gallai_theory.specs.Matchings.{edges_used, IsMatched}
+use Rattle.gallai_theory.specs.Decomposition.{IsDecomposed}
 use Rattle.dual_change.proofs.Barrier.{barrier}
 use Rattle.augment.proofs.Counts.{degree-free, degree-mated}
 use Rattle.mwpm_engine.specs.declared.outcome.Outcome.{Outcome}
@@ -23,7 +23,7 @@ use Rattle.mwpm_engine.proofs.Decomposed.{is_decomposed, outer_odd}
 stuck_barrier : (s : Search) → HasStuckForest s → IsBarrier s.graph (inner_vertices (state_of s))
 stuck_barrier s h =
     let t = state_of s in let nested = nested_of s h.sound.shape in let graph = h.sound.shape.graph.graph in
-    barrier t h.sound.depth h.root graph nested h.sound.state h.planted h.is_root h.stuck
+    barrier t h.sound.depth h.root graph nested h.sound.state h.all_rooted h.is_root h.stuck
 
 -- so there is no perfect matching
 pub stuck_excludes : (s : Search) (g : Multigraph) → s.graph ≡ g → HasStuckForest s → HasPerfect g → ⊥
@@ -58,12 +58,12 @@ decomposed s nodes h =
           mate_kept s.graph m v graph.ends low high (h.mates v e.0 (range_vertex n v low high) e.1);
       matched = subst (IsMatched s.graph) (sym same) h.matched;
       missed = λ v low high. rw (mate_numbers_at m n v low high, same) (missed_by (m v) (degree s.graph (mate_counts s.graph m) v)
-          (degree-free s.graph m graph.ends h.mates sound.shape.graph.plain v)
-          (λ e has. let iv = range_vertex n v low high in (edge_low s h v e iv has, degree-mated s.graph m graph.ends h.mates sound.shape.graph.plain v (h.mates v e iv has))));
+          (degree-free s.graph m graph.ends h.mates sound.shape.graph.loopless v)
+          (λ e has. let iv = range_vertex n v low high in (edge_low s h v e iv has, degree-mated s.graph m graph.ends h.mates sound.shape.graph.loopless v (h.mates v e iv has))));
       outer_set = picked_set n (λ v. is_label (t.label (outermost t.blossoms v)) Outer);
       decomposed = subst (λ c. IsDecomposed s.graph (edges_used s.graph c) (outer_vertices t) (inner_vertices t)) (sym same)
-          (is_decomposed t sound.depth graph nested sound.state h.forest.planted h.forest.stuck sound.shape.graph.plain m h.mates h.matched h.misses);
-      odd = outer_odd t sound.depth graph nested sound.state h.forest.planted h.forest.stuck;
+          (is_decomposed t sound.depth graph nested sound.state h.forest.all_rooted h.forest.stuck sound.shape.graph.loopless m h.mates h.matched h.misses);
+      odd = outer_odd t sound.depth graph nested sound.state h.forest.all_rooted h.forest.stuck;
     }
 
 pub ends : (s : Search) (outcome : Outcome) (nodes : List ℕ) → Concludes s outcome → nodes ≡ proving s.arena.duals s.arena.blossoms

@@ -10,10 +10,10 @@ use Rattle.dual_change.proofs.Barrier.{outer_free, hangs_together, same_node, fi
 use Rattle.dual_change.proofs.Least.{HasNoBound, stuck_none}
 use Rattle.dual_change.proofs.Total.{balance}
 use Rattle.augment.specs.Matching.{AreVertexMates, MissesOneEach, mate_counts}
-use Rattle.outer_sets.specs.Matchings.{edges_used, IsMatched}
-use Rattle.outer_sets.specs.Decomposition.{IsDecomposed}
-use Rattle.outer_sets.proofs.Berge.{heads_few}
-use Rattle.outer_sets.proofs.Equality.{AreMostHeads, heads_decompose}
+use Rattle.gallai_theory.specs.Matchings.{edges_used, IsMatched}
+use Rattle.gallai_theory.specs.Decomposition.{IsDecomposed}
+use Rattle.gallai_theory.proofs.Berge.{heads_few}
+use Rattle.gallai_theory.proofs.Equality.{AreMostHeads, heads_decompose}
 use Rattle.mwpm_engine.specs.Solutions.{IsInOdd}
 use Rattle.mwpm_engine.specs.Solving.{outer_vertices}
 use Rattle.mwpm_engine.proofs.Border.{border_is, label_test, listed_vertex}

@@ -6,7 +6,7 @@ use Rattle.alt_forest.proofs.Common.{same_Some, Multigraph, IsEdgeNumber, degree
 use Rattle.alt_forest.proofs.Common.{holds_all, holds-push, edge_back, edge_of_within, end-push, left-append, left-length, start_held, vertices-left, vertices-within, walk-push, is_vertex}
 use Rattle.alt_forest.proofs.Common.{AllNew, length-vertices, length-within, new-append, vertices, holds-vertices, range_vertex, vertex_range, some_not_none}
 use Rattle.augment.specs.Matching.{mate_counts}
-use Rattle.outer_sets.specs.Decomposition.{Alternates, IsEvenPath}
+use Rattle.gallai_theory.specs.Decomposition.{Alternates, IsEvenPath}
 use Rattle.augment.proofs.Counts.{degree-free}
 use Rattle.mwpm_engine.specs.Alternating.{CanAlternate}
 use Rattle.greedy_start.proofs.FarEnds.{far_differs, far_vertex}
@@ -115,7 +115,7 @@ module _ {g : Multigraph} {m other : ℕ → Option ℕ} {v : ℕ} (two : CanAlt
     across_new : holds met across ≡ false
     across_new = false_from_ne_true (holds met across) (λ is. ⊎_elim
         (λ inside. both_ways (holds left at) at_new (subst (λ (x : ℕ). holds left x ≡ true) back_at (h.paired across inside e first.back)))
-        (λ last. far_differs g e at two.ends first.is_edge two.plain (sym (eqb-true at across last)))
+        (λ last. far_differs g e at two.ends first.is_edge two.loopless (sym (eqb-true at across last)))
         (or_cases (holds left across) (eqb at across) (sym (holds-push left at across) ∙ is)))
 
     across_differs : across ≢ v
@@ -187,7 +187,7 @@ module _ {g : Multigraph} {m other : ℕ → Option ℕ} {v : ℕ} (two : CanAlt
 
       new_still : AllNew all_met
       new_still = new_push all_left next (new_push met across h.new across_new) (holds-push met across next ∙ or_from (holds met next) (eqb across next) next_new
-          (false_from_ne_true (eqb across next) (λ q. far_differs g f across two.ends second.is_edge two.plain (sym (eqb-true across next q)))))
+          (false_from_ne_true (eqb across next) (λ q. far_differs g f across two.ends second.is_edge two.loopless (sym (eqb-true across next q)))))
 
       -- two edges more
       pub goes_further : IsEvenSoFar g m other v longer next
@@ -210,5 +210,5 @@ module _ {g : Multigraph} {m other : ℕ → Option ℕ} {v : ℕ} (two : CanAlt
     walk = h.walk;
     no_vertex_twice = new_differ (walk_vertices g v es) (subst AllNew (sym met_all) h.new);
     alternates = h.alternates;
-    missed = ap (degree g (mate_counts g m)) h.end ∙ degree-free g m two.ends two.first two.plain at none;
+    missed = ap (degree g (mate_counts g m)) h.end ∙ degree-free g m two.ends two.first two.loopless at none;
   }

@@ -1,11 +1,11 @@
 -- What an augment leaves while a forest grows: all other trees, or none.
 use Rattle.alt_forest.proofs.Common.{◌≡◌, ◌≢◌, ◌↔◌, ℕ, ◌+◌, ◌*◌, ◌<◌, ◌≤◌, pos, Bool, true, false, cond, length, refl, sym, ap, subst, arith, ⊎_elim}
-use Rattle.alt_forest.proofs.Common.{both_ways, Multigraph, most_blossoms, Family, IsSound, state_of, exposed_count, tree_count, measure, IsPlanted, looks_left, IsStanding, CanAugment}
+use Rattle.alt_forest.proofs.Common.{both_ways, Multigraph, most_blossoms, Family, IsSound, state_of, exposed_count, tree_count, measure, IsPlanted, looks_left, HasTreeNodes, CanAugment}
 use Rattle.alt_forest.proofs.Common.{nested_of}
 use Rattle.alt_forest.specs.declared.search.Search.{Search}
-use Rattle.event_bounds.specs.declared.bounds.EventBounds.{EventBounds}
-use Rattle.event_bounds.specs.Bounds.{HasPlaces, IsBounding}
-use Rattle.event_bounds.specs.Looks.{stale_ends}
+use Rattle.search_keys.specs.declared.bounds.EventBounds.{EventBounds}
+use Rattle.search_keys.specs.Bounds.{HasPlaces, IsBounding}
+use Rattle.search_keys.specs.Looks.{stale_ends}
 use Rattle.dual_change.specs.declared.event.Event.{Event}
 use Rattle.dual_change.specs.declared.event.Event.TheVariants.{Augment}
 use Rattle.mwpm_engine.specs.Solutions.{size_of_graph}
@@ -24,7 +24,7 @@ IsJoinedFrom s t = t ≡ record s {
   mates = t.mates;
   queue = t.queue;
   clock = t.clock;
-  standing = t.standing;
+  tree_nodes = t.tree_nodes;
   scanned = t.scanned;
 }
 
@@ -41,7 +41,7 @@ module _ (s t : Search) (b d : EventBounds) (e old new : ℕ) (forest : IsForest
 
   two : 2 ≤ s.graph.vertices
   two = ⊎_elim (λ some. some) (λ no_edge. let low = can.tight.edge.0 in let high = can.tight.edge.1 in absurd (omega (arith, no_edge, low, high)))
-      (some_or_none s.graph forest.sound.shape.graph.graph forest.sound.shape.graph.plain)
+      (some_or_none s.graph forest.sound.shape.graph.graph forest.sound.shape.graph.loopless)
 
   few : 2 * length t.arena.blossoms + 1 ≤ s.graph.vertices
   few = subst (λ (f : Family). 2 * length f.blossoms + 1 ≤ s.graph.vertices) (sym arena) (few_blossoms s can.one forest.sound.shape can.one_is)
@@ -83,10 +83,10 @@ module _ (s t : Search) (b d : EventBounds) (e old new : ℕ) (forest : IsForest
       plain : (account k e : ℕ) → old ≤ account → 2 * k ≤ e → 4 * new + 2 * k ≤ 4 * account + e + 4
       plain account k e low some = omega (arith, low, some, step)
 
-  joined_on : IsBounding t d → IsStanding t → tree_count (state_of t) ≢ 0 → t.clock ≡ s.clock → new + stale_ends t d ≤ old + 1 + 2 * length s.graph.edges
+  joined_on : IsBounding t d → HasTreeNodes t → tree_count (state_of t) ≢ 0 → t.clock ≡ s.clock → new + stale_ends t d ≤ old + 1 + 2 * length s.graph.edges
       → GoesOn (stage_of s b old) (stage_of t d new) (Augment e)
-  joined_on bounding standing some clock count = record {
-    running = record { forest = grows_still s t forest sound standing planted some (arena_duals s t arena (joined_pass s t rest)) (joined_pass s t rest) clock; bounding = bounding };
+  joined_on bounding tree_nodes some clock count = record {
+    running = record { forest = grows_still s t forest sound tree_nodes planted some (arena_duals s t arena (joined_pass s t rest)) (joined_pass s t rest) clock; vertex_keys = bounding };
     less = left_falls s.graph.vertices (exposed_count (state_of t)) (exposed_count (state_of s)) (measure (state_of t)) (measure (state_of s)) fewer (omega (arith, left, few));
     paid = joined_account count;
   }
@@ -95,7 +95,7 @@ module _ (s t : Search) (b d : EventBounds) (e old new : ℕ) (forest : IsForest
   joined_last places none step = record {
     complete = record {
       sound = sound;
-      matched = none_left (state_of t) sound.depth (nested_of t sound.shape) sound.state (planted forest.planted) none;
+      matched = none_left (state_of t) sound.depth (nested_of t sound.shape) sound.state (planted forest.all_rooted) none;
       bounded = still_bounded s t arena (joined_pass s t rest) forest.bounded;
     };
     places = places;
@@ -103,10 +103,10 @@ module _ (s t : Search) (b d : EventBounds) (e old new : ℕ) (forest : IsForest
     paid = last_account step;
   }
 
-  pub joined : (left : Bool) → (left ≡ true → IsBounding t d) → HasPlaces t.graph d → IsStanding t → (left ≡ false) ↔ (tree_count (state_of t) ≡ 0) → t.clock ≡ cond left s.clock (pos 0)
+  pub joined : (left : Bool) → (left ≡ true → IsBounding t d) → HasPlaces t.graph d → HasTreeNodes t → (left ≡ false) ↔ (tree_count (state_of t) ≡ 0) → t.clock ≡ cond left s.clock (pos 0)
       → (left ≡ false → new ≡ old + 1) → (left ≡ true → new + stale_ends t d ≤ old + 1 + 2 * length s.graph.edges) → Happens (stage_of s b old) (stage_of t d new) (Augment e) left
-  joined true bounding places standing trees clock last count = joined_on (bounding refl) standing (λ none. both_ways true (trees.1 none) refl) clock (count refl)
-  joined false bounding places standing trees clock last count = joined_last places (trees.0 refl) (last refl)
+  joined true bounding places tree_nodes trees clock last count = joined_on (bounding refl) tree_nodes (λ none. both_ways true (trees.1 none) refl) clock (count refl)
+  joined false bounding places tree_nodes trees clock last count = joined_last places (trees.0 refl) (last refl)
 
 -- a tree that takes something in goes on too
 pub took_in : (s t : Search) (b d : EventBounds) (old new : ℕ) (event : Event) → IsRunning t d → t.graph ≡ s.graph → exposed_count (state_of t) ≡ exposed_count (state_of s)

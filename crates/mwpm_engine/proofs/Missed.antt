@@ -6,8 +6,8 @@ use Rattle.alt_forest.proofs.Common.{range_vertex, outermost_has, State, IsExpos
 use Rattle.alt_forest.proofs.Common.{root_passes, member-mapped as holds-map}
 use Rattle.dual_change.proofs.Total.{length-picked}
 use Rattle.augment.specs.Matching.{AreVertexMates, IsMissedIn, MissesOneEach, mate_counts}
-use Rattle.outer_sets.specs.Matchings.{edges_used, IsMatched}
-use Rattle.outer_sets.proofs.Berge.{lack_total}
+use Rattle.gallai_theory.specs.Matchings.{edges_used, IsMatched}
+use Rattle.gallai_theory.proofs.Berge.{lack_total}
 use Rattle.augment.proofs.Counts.{degree-mated}
 use Rattle.mwpm_engine.proofs.Forest.{exposed_root}
 

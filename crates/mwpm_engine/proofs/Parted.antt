@@ -5,7 +5,7 @@ use Rattle.augment.specs.Matching.{AreVertexMates, MissesOneEach, mate_counts}
 use Rattle.dual_change.specs.declared.event.Event.TheVariants.{Grow, Shrink, Augment, Expand}
 use Rattle.dual_change.specs.Changes.{IsStuck, applied}
 use Rattle.dual_change.proofs.Least.{HasNoBound, stuck_none}
-use Rattle.outer_sets.specs.Matchings.{IsMatched as IsMatchedBy}
+use Rattle.gallai_theory.specs.Matchings.{IsMatched as IsMatchedBy}
 use Rattle.mwpm_engine.specs.Passes.{HasStuckForest, IsParted}
 
 abbrev with_mates : State → (ℕ → Option ℕ) → State
@@ -29,10 +29,10 @@ parted old new h rest sound kept mates matched misses =
     subst IsParted (sym rest) (record {
       forest = record {
         sound = subst IsSound rest sound;
-        planted = λ a x. h.planted a (x.0, sym (kept a x.0) ∙ x.1);
+        all_rooted = λ a x. h.all_rooted a (x.0, sym (kept a x.0) ∙ x.1);
         root = h.root;
         is_root = record { outermost = r.outermost; outer = r.outer; exposed = kept h.root r.outermost ∙ r.exposed };
-        stuck = still_stuck s h.sound.depth (edge_in new.mates.items) graph nested (stuck_none s h.sound.depth graph nested h.sound.state h.planted h.stuck);
+        stuck = still_stuck s h.sound.depth (edge_in new.mates.items) graph nested (stuck_none s h.sound.depth graph nested h.sound.state h.all_rooted h.stuck);
       };
       mates = mates;
       matched = matched;

@@ -2,8 +2,8 @@
 use Rattle.alt_forest.proofs.Common.{◌≡◌, ℕ, zero, suc, ◌+◌, ◌-◌, ◌*◌, ◌<◌, ◌≤◌, Bool, true, false, List, [], length, sym, ap, ap₂, subst, arith, ⊎_elim}
 use Rattle.alt_forest.proofs.Common.{Size, Multigraph, IsGraph, HasNoLoop, most_blossoms, Blossom, State, state_of, outside_among, measure, exposed_count, looks_left}
 use Rattle.alt_forest.specs.declared.search.Search.{Search}
-use Rattle.event_bounds.specs.declared.bounds.EventBounds.{EventBounds}
-use Rattle.event_bounds.specs.Looks.{stale_ends}
+use Rattle.search_keys.specs.declared.bounds.EventBounds.{EventBounds}
+use Rattle.search_keys.specs.Looks.{stale_ends}
 use Rattle.mwpm_engine.specs.Solutions.{size_of_graph}
 use Rattle.greedy_start.specs.Sweeps.{start_looks}
 use Rattle.mwpm_engine.specs.Passes.{IsReady, KeepsCounts, Stage, stage_of, augment_account, bounding_account, pass_account, pass_steps, pass_total, shrinks_left}
@@ -75,7 +75,7 @@ module _ (s t : Search) (b c : EventBounds) (graph : t.graph ≡ s.graph) where
     reached_kept by keeps shrinks count =
         let edges = ap₂ (λ (g : Multigraph) (k : ℕ). 2 * length g.edges * k) graph shrinks in
         let paid = accounted 0 by (plain (stale_ends s b) (stale_ends t c) _ _ (looks_left (state_of s)) (looks_left (state_of t)) (measure (state_of s)) (measure (state_of t)) edges
-        keeps.looks keeps.left count) in
+        keeps.inspections keeps.left count) in
         omega (arith, paid)
       where
         plain : (before after left now_left before_looks after_looks before_measure after_measure : ℕ) → now_left ≡ left → after_looks ≡ before_looks
@@ -114,7 +114,7 @@ module _ (s t : Search) (b : EventBounds) (old new : ℕ) (ready : IsReady s) (a
       let shrinks = subst (λ (g : Multigraph). shrinks_left (state_of t) ≤ most_blossoms g.vertices) graph (shrinks_most (state_of t) (omega (arith, none, none_there))) in
       let edges = ap (λ (g : Multigraph). 2 * length g.edges * shrinks_left (state_of t)) graph in
       plain (length s.graph.edges) (most_blossoms s.graph.vertices) s.graph.vertices (stale_ends t b) (looks_left (state_of s)) (looks_left (state_of t)) _ (shrinks_left (state_of t))
-      (measure (state_of t)) stale look (omega (arith, looks, here)) edges shrinks (omega (arith, left, none, none_there)) (few_times s.graph good.graph good.plain)
+      (measure (state_of t)) stale look (omega (arith, looks, here)) edges shrinks (omega (arith, left, none, none_there)) (few_times s.graph good.graph good.loopless)
     where
       plain : (m most n stale before looks times shrinks left : ℕ) → stale ≤ 0 → new + looks ≤ old + before → before ≤ 2 * m → times ≡ 2 * m * shrinks
           → shrinks ≤ most → left ≤ n → 2 * m * most + m ≤ m * n → 4 * (new + stale + looks + times + 3 * left) ≤ 4 * old + (4 * m * (n + 1) + 12 * n)

@@ -1,5 +1,5 @@
 -- What is so once every exposed node is planted.
-use Rattle.alt_forest.proofs.Common.{◌≡◌, ◌≢◌, ◌∙◌, ℕ, ap, sym, subst, IsExposed, IsSound, state_of, IsPlanted, tree_count, IsStanding, nested_of}
+use Rattle.alt_forest.proofs.Common.{◌≡◌, ◌≢◌, ◌∙◌, ℕ, ap, sym, subst, IsExposed, IsSound, state_of, IsPlanted, tree_count, HasTreeNodes, nested_of}
 use Rattle.alt_forest.specs.declared.search.Search.{Search}
 use Rattle.augment.proofs.Fewer.{root_counted}
 use Rattle.pass_parts.proofs.PlantedNodes.{IsPlantedFrom}
@@ -12,11 +12,11 @@ use Rattle.mwpm_engine.proofs.Timed.{timed_first}
 pub planted_pass : (s t : Search) → IsPlantedFrom s t → IsSamePass s t
 planted_pass s t rest = record { graph = ap (λ (x : Search). x.graph) rest; weights = ap (λ (x : Search). x.weights) rest; start = ap (λ (x : Search). x.start) rest }
 
-pub planted_on : (s t : Search) → IsPlantedFrom s t → IsReady s → IsSound t → IsStanding t → IsPlanted (state_of t) → tree_count (state_of t) ≢ 0 → IsForest t
-planted_on s t rest ready sound standing planted some =
+pub planted_on : (s t : Search) → IsPlantedFrom s t → IsReady s → IsSound t → HasTreeNodes t → IsPlanted (state_of t) → tree_count (state_of t) ≢ 0 → IsForest t
+planted_on s t rest ready sound tree_nodes planted some =
     let bounded = still_bounded s t (ap (λ (x : Search). x.arena) rest) (planted_pass s t rest) ready.bounded in
-    let timed = timed_first (state_of t) t.start t.clock (ap (λ (x : Search). x.clock) rest ∙ ready.queued.still (λ a is. ready.labels a)) bounded in
-    record { sound = sound; standing = standing; planted = planted; trees = some; bounded = bounded; timed = timed }
+    let timed = timed_first (state_of t) t.start t.clock (ap (λ (x : Search). x.clock) rest ∙ ready.event_times.idle_clock (λ a is. ready.labels a)) bounded in
+    record { sound = sound; listed = tree_nodes; all_rooted = planted; trees = some; bounded = bounded; timed = timed }
 
 -- where some node is exposed there is one
 pub exposed_planted : (s t : Search) (a : ℕ) → IsPlantedFrom s t → IsSound t → IsPlanted (state_of t) → IsExposed (state_of s) a → tree_count (state_of t) ≢ 0

@@ -1,6 +1,6 @@
 -- What comes next while a forest grows: the duals and the clock change within their bounds, and all trees stay.
 use Rattle.alt_forest.proofs.Common.{◌≡◌, ◌∙◌, ◌+◌, ℤ, ◌+ℤ◌, ◌≤ℤ◌, Option, Some, None, refl, sym, ap, subst, ⊎_elim, inl, inr, NUMBER_LIMIT, State, IsSound}
-use Rattle.alt_forest.proofs.Common.{state_of, exposed_count, measure, tree_count, IsPlanted, HasNoTree, looks_left, IsStanding, nested_of, roots_counted, outer_not_out}
+use Rattle.alt_forest.proofs.Common.{state_of, exposed_count, measure, tree_count, IsPlanted, HasNoTree, looks_left, HasTreeNodes, nested_of, roots_counted, outer_not_out}
 use Rattle.alt_forest.specs.declared.search.Search.{Search}
 use Rattle.dual_change.specs.declared.event.Event.{Event}
 use Rattle.dual_change.specs.declared.event.Next.{Next}
@@ -52,11 +52,11 @@ pub some_tree : (s : Search) → IsForest s → HasNoTree (state_of s) → ⊥
 some_tree s h none = let r = roots_counted (state_of s) h.trees in outer_not_out (sym r.1.outer ∙ none r.0 r.1.outermost)
 
 -- a search whose queue has lost entries grows on
-pub forest_found : (s u : Search) → u ≡ record s { queue = u.queue } → IsSound u → IsStanding u → IsForest s → IsForest u
-forest_found s u rest sound standing h = subst IsForest (sym rest) (record {
+pub forest_found : (s u : Search) → u ≡ record s { queue = u.queue } → IsSound u → HasTreeNodes u → IsForest s → IsForest u
+forest_found s u rest sound tree_nodes h = subst IsForest (sym rest) (record {
   sound = subst IsSound rest sound;
-  standing = subst IsStanding rest standing;
-  planted = h.planted;
+  listed = subst HasTreeNodes rest tree_nodes;
+  all_rooted = h.all_rooted;
   trees = h.trees;
   bounded = h.bounded;
   timed = h.timed;
@@ -76,7 +76,7 @@ stays s d event h within can =
     let range : StaysInRange (state_of s) d × IsBounded (applied (state_of s) d) s.start = ⊎_elim
     (λ z. let r = no_duals_in_range (state_of s) graph.graph z d event within can in (r.0, inl r.1))
     (λ z.
-    let r = raised_in_range (state_of s) s.start h.sound.depth d graph.graph graph.plain graph.limits.vertices nested h.sound.state h.planted h.trees within z in
+    let r = raised_in_range (state_of s) s.start h.sound.depth d graph.graph graph.loopless graph.limits.vertices nested h.sound.state h.all_rooted h.trees within z in
     (r.0, inr r.1))
     h.bounded in
     let timed = timed_applied (state_of s) s.start s.clock d h.sound.depth event graph.graph nested h.sound.state h.trees h.bounded within can h.timed in
@@ -85,16 +85,16 @@ stays s d event h within can =
       bounded = range.1;
       timed = timed;
       clock_fits = clock_fits (applied (state_of s) d) s.start (s.clock +ℤ d) h.sound.depth graph.graph graph.limits.vertices nested
-          (applied_state (state_of s) d graph.graph nested h.sound.depth h.sound.state graph.plain h.planted within) range.1 timed;
+          (applied_state (state_of s) d graph.graph nested h.sound.depth h.sound.state graph.loopless h.all_rooted within) range.1 timed;
     }
 
 -- a search whose state is that after the change grows on
-pub grows_on : (s t : Search) (d : ℤ) → IsForest s → IsSound t → IsStanding t → IsPlanted (state_of t) → state_of t ≡ applied (state_of s) d → t.start ≡ s.start
+pub grows_on : (s t : Search) (d : ℤ) → IsForest s → IsSound t → HasTreeNodes t → IsPlanted (state_of t) → state_of t ≡ applied (state_of s) d → t.start ≡ s.start
     → t.clock ≡ s.clock +ℤ d → Stays (state_of s) s.start s.clock d → IsForest t
-grows_on s t d h sound standing planted is start clock left = record {
+grows_on s t d h sound tree_nodes planted is start clock left = record {
   sound = sound;
-  standing = standing;
-  planted = planted;
+  listed = tree_nodes;
+  all_rooted = planted;
   trees = λ none. h.trees (sym (ap tree_count is) ∙ none);
   bounded = subst (λ y. IsBounded (state_of t) y) (sym start) (subst (λ (x : State). IsBounded x s.start) (sym is) left.bounded);
   timed = subst (λ y. IsTimed (state_of t) y t.clock) (sym start)
@@ -103,7 +103,7 @@ grows_on s t d h sound standing planted is start clock left = record {
 
 -- where nothing comes next the forest is stuck
 pub stuck_forest : (s : Search) → IsForest s → IsStuck (state_of s) → HasStuckForest s
-stuck_forest s h stuck = let r = roots_counted (state_of s) h.trees in record { sound = h.sound; planted = h.planted; root = r.0; is_root = r.1; stuck = stuck }
+stuck_forest s h stuck = let r = roots_counted (state_of s) h.trees in record { sound = h.sound; all_rooted = h.all_rooted; root = r.0; is_root = r.1; stuck = stuck }
 
 -- an event that was found, with the change that leads to it
 pub record IsFound (s : Search) (event : Event) (d : ℤ) : Type 0 where
@@ -119,4 +119,4 @@ found s next event d told back is within same h =
 
 -- a change of duals keeps what is counted
 pub keeps_applied : (s t : State) (d : ℤ) → t ≡ applied s d → KeepsCounts s t
-keeps_applied s t d is = record { exposed = ap exposed_count is; left = ap measure is; looks = ap looks_left is }
+keeps_applied s t d is = record { exposed = ap exposed_count is; left = ap measure is; inspections = ap looks_left is }

@@ -1,7 +1,8 @@
 -- How many steps a run counts at most: one pass that ends stuck, or two that don't. Where there is a perfect matching there are at least
 -- half as many edges as vertices, so what an augment counts for vertices is few beside what it counts for edges.
 use Rattle.graph_theory.proofs.Common.{◌≡◌, ◌⊎◌, ℕ, zero, suc, ◌+◌, ◌-◌, ◌*◌, ◌≤◌, pos, ◌+ℤ◌, ◌*ℤ◌, length, slice_index, sym, subst, arith}
-use Rattle.graph_theory.proofs.Common.{Bool, true, false, cond, ltb, ⊎_elim, ints, nat_tests, Multigraph, IsGraph, HasNoLoop, handshake-perfect, int_sum_to-same, int_sum_to-pos, int_sum_to-one, sum_to-most}
+use Rattle.graph_theory.proofs.Common.{Bool, true, false, cond, ltb, ⊎_elim, ints, nat_tests, Multigraph, IsGraph, HasNoLoop, handshake-perfect, int_sum_to-same, int_sum_to-pos}
+use Rattle.graph_theory.proofs.Common.{int_sum_to-one, sum_to-most}
 use Rattle.mwpm_engine.specs.Solutions.{HasPerfect, close_steps, most_steps, size_of_graph}
 use Rattle.greedy_start.specs.Sweeps.{start_looks}
 use Rattle.mwpm_engine.specs.Passes.{IsEnough, pass_total}

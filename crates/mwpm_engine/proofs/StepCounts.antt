@@ -65,7 +65,7 @@ pub planted_paid : (s t : Search) (old new a : ℕ) → IsReady s → IsOutermos
     → new + looks_left (state_of t) ≤ old + looks_left (state_of s) → entry_count t.queue + old ≤ entry_count s.queue + new
     → account t new + 3 ≤ old + phase_steps (size_of_graph s.graph) (length s.arena.blossoms)
 planted_paid s t old new a ready is arena graph look count =
-    let none : entry_count s.queue ≡ 0 = none_entered s.queue (ready.queued.empty (λ b out. ready.labels b)) in
+    let none : entry_count s.queue ≡ 0 = none_entered s.queue (ready.event_times.empty (λ b out. ready.labels b)) in
     let left : measure (state_of t) ≤ s.graph.vertices + length s.arena.blossoms =
     subst (λ (g : Multigraph). measure (state_of t) ≤ g.vertices + length s.arena.blossoms) graph
     (subst (λ (f : Family). measure (state_of t) ≤ t.graph.vertices + length f.blossoms) arena (left_most (state_of t))) in

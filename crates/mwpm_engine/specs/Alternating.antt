@@ -9,7 +9,7 @@ use Rattle.augment.specs.Matching.{AreVertexMates}
 -- doesn't
 pub record CanAlternate (g : Multigraph) (m other : ℕ → Option ℕ) (v : ℕ) : Type 0 where
   pub ends : All (IsEdgeWithin g.vertices) g.edges
-  pub plain : HasNoLoop g
+  pub loopless : HasNoLoop g
   pub first : AreVertexMates g m
   pub second : AreVertexMates g other
   pub start : is_vertex g.vertices v ≡ true

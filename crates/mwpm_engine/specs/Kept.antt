@@ -5,7 +5,7 @@ use Rattle.std.specs.Vec.{vec_capacity}
 use Rattle.graph_theory.specs.Nested.{most_blossoms}
 use Rattle.blossom_arena.specs.Family.{is_node}
 use Rattle.alt_forest.specs.Searches.{HasShape}
-use Rattle.event_bounds.specs.Bounds.{HasPlaces}
+use Rattle.search_keys.specs.Bounds.{HasPlaces}
 use Rattle.mwpm_engine.specs.declared.engine.Engine.TheInside.{Inside}
 use Rattle.mwpm_engine.specs.declared.outcome.Outcome.TheVariants.{Barrier}
 use Rattle.mwpm_engine.specs.Passes.{IsParted}
@@ -24,6 +24,6 @@ pub record IsKept (a : Inside) : Type 0 where
   pub places : HasPlaces a.search.graph a.bounds
   pub nodes : AllByRecursion (λ b. is_node a.search.graph.vertices a.search.arena.blossoms b ≡ true)
       a.sets.items
-  pub few : vec_len a.sets ≤ most_blossoms a.search.graph.vertices
+  pub size_limit : vec_len a.sets ≤ most_blossoms a.search.graph.vertices
   pub room : most_blossoms a.search.graph.vertices ≤ vec_capacity a.sets
   pub parted : a.outcome ≡ Some Barrier → IsParted a.search

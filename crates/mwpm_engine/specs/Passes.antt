@@ -9,16 +9,16 @@ use Rattle.alt_forest.specs.declared.search.Search.{Search}
 use Rattle.alt_forest.specs.State.{State}
 use Rattle.alt_forest.specs.Searches.{IsSound, state_of, label_at, edge_in}
 use Rattle.augment.specs.Matching.{mate_counts, AreVertexMates, MissesOneEach}
-use Rattle.outer_sets.specs.Matchings.{IsMatched as IsMatchedBy}
+use Rattle.gallai_theory.specs.Matchings.{IsMatched as IsMatchedBy}
 use Rattle.alt_forest.specs.Trees.{IsRoot}
 use Rattle.graph_theory.specs.Nested.{most_blossoms}
 use Rattle.alt_forest.specs.Counts.{tree_count, exposed_count, measure, outside_among, IsPlanted}
 use Rattle.alt_forest.specs.Counts.{IsMatched}
 use Rattle.alt_forest.specs.Entries.{IsQueued, entry_count, looks_left}
-use Rattle.alt_forest.specs.Standing.{IsStanding}
-use Rattle.event_bounds.specs.declared.bounds.EventBounds.{EventBounds}
-use Rattle.event_bounds.specs.Bounds.{HasPlaces, IsBounding}
-use Rattle.event_bounds.specs.Looks.{stale_ends}
+use Rattle.alt_forest.specs.TreeNodes.{HasTreeNodes}
+use Rattle.search_keys.specs.declared.bounds.EventBounds.{EventBounds}
+use Rattle.search_keys.specs.Bounds.{HasPlaces, IsBounding}
+use Rattle.search_keys.specs.Looks.{stale_ends}
 use Rattle.dual_change.specs.declared.event.Event.{Event}
 use Rattle.dual_change.specs.declared.event.Event.TheVariants.{Grow, Shrink, Augment, Expand}
 use Rattle.dual_change.specs.declared.event.Next.{Next}
@@ -54,8 +54,8 @@ pub record IsTimed (s : State) (start clock : ℤ) : Type 0 where
 -- a forest of all exposed nodes, with some tree, and the duals and the clock are bounded
 pub record IsForest (s : Search) : Type 0 where
   pub sound : IsSound s
-  pub standing : IsStanding s
-  pub planted : IsPlanted (state_of s)
+  pub listed : HasTreeNodes s
+  pub all_rooted : IsPlanted (state_of s)
   pub trees : tree_count (state_of s) ≢ 0
   pub bounded : IsBounded (state_of s) s.start
   pub timed : IsTimed (state_of s) s.start s.clock
@@ -63,17 +63,17 @@ pub record IsForest (s : Search) : Type 0 where
 -- such a forest, while the moments of events are kept
 pub record IsGrowing (s : Search) : Type 0 where
   pub forest : IsForest s
-  pub queued : IsQueued s
+  pub event_times : IsQueued s
 
 -- such a forest, while bounds of the moments are kept
 pub record IsRunning (s : Search) (b : EventBounds) : Type 0 where
   pub forest : IsForest s
-  pub bounding : IsBounding s b
+  pub vertex_keys : IsBounding s b
 
 -- the forest of all exposed nodes has a tree, and no change lets any of its trees grow
 pub record HasStuckForest (s : Search) : Type 0 where
   pub sound : IsSound s
-  pub planted : IsPlanted (state_of s)
+  pub all_rooted : IsPlanted (state_of s)
   pub root : ℕ
   pub is_root : IsRoot (state_of s) root
   pub stuck : IsStuck (state_of s)
@@ -110,7 +110,7 @@ IsReached s None = IsStuck (state_of s)
 pub record KeepsCounts (before after : State) : Type 0 where
   pub exposed : exposed_count after ≡ exposed_count before
   pub left : measure after ≡ measure before
-  pub looks : looks_left after ≡ looks_left before
+  pub inspections : looks_left after ≡ looks_left before
 
 -- What a phase has counted and how much it can still count at most. Each look at an end of an edge
 -- enters at most one edge into the queue, and each edge there is looked at once more at most when

@@ -9,8 +9,8 @@ use Rattle.graph_theory.specs.Graph.{degree, IsPerfect, weight}
 use Rattle.graph_theory.specs.Limits.{Size}
 use Rattle.graph_theory.specs.Barrier.{IsBarrier, IsComponent}
 use Rattle.graph_theory.specs.Parts.{holds, IsVertexSet}
-use Rattle.outer_sets.specs.Matchings.{edges_used, IsMatched}
-use Rattle.outer_sets.specs.Decomposition.{IsDecomposed}
+use Rattle.gallai_theory.specs.Matchings.{edges_used, IsMatched}
+use Rattle.gallai_theory.specs.Decomposition.{IsDecomposed}
 use Rattle.graph_theory.specs.Duals.{DualSet, AreDuals, dual_value, IsNumber}
 pub use Rattle.graph_theory.specs.Nested.{AreNested, AreAscending}
 use Rattle.graph_theory.specs.Nested.{most_blossoms}
@@ -73,7 +73,7 @@ pub record IsSolved (s : Solution) : Type 0 where
   pub value : (sets : List DualSet) → AreAscending s.sets sets
       → dual_value s.duals sets ≡ pos 2 *ℤ weight s.graph (matching_of s.graph s.mates)
   pub nested : AreNested s.sets
-  pub few : length s.sets ≤ most_blossoms s.graph.vertices
+  pub size_limit : length s.sets ≤ most_blossoms s.graph.vertices
   pub few_members : 4 * member_count s.sets ≤ s.graph.vertices * s.graph.vertices
       + 3 * s.graph.vertices
   pub in_range : All IsNumber s.duals

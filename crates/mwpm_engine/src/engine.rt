@@ -4,7 +4,7 @@ ghost use Rattle.graph_theory.specs.Graph.{IsGraph, HasNoLoop};
 ghost use Rattle.graph_theory.specs.Parts.{holds};
 ghost use Rattle.graph_theory.specs.Duals.{dual_of, set_at};
 ghost use Rattle.graph_theory.specs.Limits.{IsWithinLimits};
-ghost use Rattle.outer_sets.specs.Decomposition.{IsEvenPath};
+ghost use Rattle.gallai_theory.specs.Decomposition.{IsEvenPath};
 ghost use Rattle.blossom_arena.specs.Family.{outermost};
 ghost use Rattle.alt_forest.specs.Searches.{HasShape, edge_in, label_at};
 ghost use Rattle.mwpm_engine.specs.Solutions.{Solution, Ends, HasPerfect, IsSolved};
@@ -20,8 +20,8 @@ use alt_forest::{Label, Search, room_for};
 use augment::mates_missing;
 use base_types::{EdgeId, OutOfMemory, Steps, VertexId};
 use blossom_arena::{Members, NodeId};
-use event_bounds::EventBounds;
 use pass_parts::{edge_at, list_sets};
+use search_keys::EventBounds;
 use std::alloc::Global;
 use std::marker::Model;
 use std::sync::ledger::Ledger;
@@ -79,9 +79,9 @@ impl Engine {
     /// `OutOfMemory` if an allocation fails.
     pub fn new(alloc: Global, graph: &Graph) -> Result<Engine, OutOfMemory>
         requires limits { IsWithinLimits (size_of_graph graph.now) }
-        requires plain { HasNoLoop graph.now }
+        requires loopless { HasNoLoop graph.now }
         ensures graph { IfOk result (λ s. s.graph ≡ graph.now) }
-        ensures fresh { IfOk result (λ s. s.outcome ≡ None) }
+        ensures not_run { IfOk result (λ s. s.outcome ≡ None) }
     {
         let vertices = graph.vertices();
         let search = Search::new(alloc, graph)?;
@@ -96,11 +96,11 @@ impl Engine {
     /// `OutOfMemory` if an allocation fails.
     pub fn of(alloc: Global, graph: Graph) -> Result<Engine, OutOfMemory>
         requires limits { IsWithinLimits (size_of_graph graph) }
-        requires plain { HasNoLoop graph }
+        requires loopless { HasNoLoop graph }
 
         // An engine for a graph that it takes.
         ensures graph { IfOk result (λ s. s.graph ≡ graph) }
-        ensures fresh { IfOk result (λ s. s.outcome ≡ None) }
+        ensures not_run { IfOk result (λ s. s.outcome ≡ None) }
     {
         let vertices = graph.vertices();
         let search = Search::of(alloc, graph)?;
@@ -112,7 +112,7 @@ impl Engine {
         requires shape { HasShape search }
         requires vertices { vertices ≡ search.graph.vertices }
         ensures graph { IfOk result (λ s. s.graph ≡ search.graph) }
-        ensures fresh { IfOk result (λ s. s.outcome ≡ None) }
+        ensures not_run { IfOk result (λ s. s.outcome ≡ None) }
     {
         let blossoms = vertices.saturating_sub(1) / 2;
         let sets = room_for(alloc, blossoms as usize)?;
@@ -130,8 +130,8 @@ impl Engine {
     pub fn graph(&self) -> &Graph
         // The graph that the engine was made for.
         ensures graph { result.now ≡ self.now.graph }
-        ensures good { IsGraph self.now.graph }
-        ensures plain { HasNoLoop self.now.graph }
+        ensures is_graph { IsGraph self.now.graph }
+        ensures loopless { HasNoLoop self.now.graph }
     {
         &self.search.graph
     }
@@ -148,7 +148,7 @@ impl Engine {
     /// least ten vertices; after the first pass each edge is looked at once for its weight, at
     /// most, and once more before a second. It takes no memory.
     pub fn solve<L: Ledger>(&mut self, steps: &mut Steps<L>) -> Outcome
-        requires fresh { self.old.outcome ≡ None }
+        requires not_run { self.old.outcome ≡ None }
         ensures outcome { self.new.outcome ≡ Some result }
         ensures graph { self.new.graph ≡ self.old.graph }
 
@@ -179,7 +179,7 @@ impl Engine {
     /// of what `solve` may. Before the pass each edge is looked at once, for its weight. It takes
     /// no memory.
     pub fn solve_matched<L: Ledger>(&mut self, steps: &mut Steps<L>)
-        requires fresh { self.old.outcome ≡ None }
+        requires not_run { self.old.outcome ≡ None }
         requires perfect { HasPerfect self.old.graph }
         ensures outcome { self.new.outcome ≡ Some Matched }
         ensures graph { self.new.graph ≡ self.old.graph }
@@ -198,8 +198,8 @@ impl Engine {
     /// Runs the search, as `solve` does, within the same steps. The graph is the one that the
     /// engine was made for.
     pub fn run<L: Ledger>(&mut self, graph: &Graph, steps: &mut Steps<L>) -> Outcome
-        requires same { graph.now ≡ self.old.graph }
-        requires fresh { self.old.outcome ≡ None }
+        requires same_graph { graph.now ≡ self.old.graph }
+        requires not_run { self.old.outcome ≡ None }
         ensures outcome { self.new.outcome ≡ Some result }
         ensures graph { self.new.graph ≡ self.old.graph }
 
@@ -226,8 +226,8 @@ impl Engine {
     /// Runs the search on a graph that is known to have a perfect matching, as `solve_matched`
     /// does, within the same steps. The graph is the one that the engine was made for.
     pub fn run_matched<L: Ledger>(&mut self, graph: &Graph, steps: &mut Steps<L>)
-        requires same { graph.now ≡ self.old.graph }
-        requires fresh { self.old.outcome ≡ None }
+        requires same_graph { graph.now ≡ self.old.graph }
+        requires not_run { self.old.outcome ≡ None }
         requires perfect { HasPerfect graph.now }
         ensures outcome { self.new.outcome ≡ Some Matched }
         ensures graph { self.new.graph ≡ self.old.graph }
@@ -242,8 +242,8 @@ impl Engine {
         self.solve_matched(steps);
     }
 
-    /// Gives its memory back, as `drop` does. What its parts give back is proved here, once, and not
-    /// in each crate that has had an engine.
+    /// Gives its memory back, as `drop` does. What its parts give back is proved here, once, and
+    /// not in each crate that has had an engine.
     pub fn release(self) {}
 
     /// The edge at a vertex in the perfect matching that was found, in constant time.

@@ -2,7 +2,7 @@
 ghost use Rattle.std.specs.Prelude.{◌<◌, IfOk, length};
 ghost use Rattle.alt_forest.specs.Searches.{edge_in};
 ghost use Rattle.augment.specs.Matching.{mate_counts};
-ghost use Rattle.outer_sets.specs.Decomposition.{IsEvenPath};
+ghost use Rattle.gallai_theory.specs.Decomposition.{IsEvenPath};
 ghost use Rattle.mwpm_engine.specs.Alternating.{CanAlternate};
 
 use base_types::{EdgeId, OutOfMemory, VertexId};
@@ -20,7 +20,7 @@ pub(crate) fn alternate(
     other: &[Option<EdgeId>],
     v: VertexId,
 ) -> Result<Vec<EdgeId>, OutOfMemory>
-    requires can { CanAlternate graph.now (edge_in mates.now) (edge_in other.now) v }
+    requires possible { CanAlternate graph.now (edge_in mates.now) (edge_in other.now) v }
     requires places { graph.now.vertices < length mates.now }
     requires other_places { graph.now.vertices < length other.now }
     ensures { IfOk result

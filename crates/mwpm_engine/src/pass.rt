@@ -1,7 +1,7 @@
 ghost use Rattle.std.specs.Prelude.{◌≡◌, ◌≤◌, ◌+◌, ◌*◌, []};
 ghost use Rattle.alt_forest.specs.Searches.{IsSound, state_of};
 ghost use Rattle.alt_forest.specs.Counts.{exposed_count};
-ghost use Rattle.event_bounds.specs.Bounds.{HasNearSums, HasPlaces};
+ghost use Rattle.search_keys.specs.Bounds.{HasNearSums, HasPlaces};
 ghost use Rattle.dual_change.specs.Changes.{IsPossible};
 ghost use Rattle.mwpm_engine.specs.Solutions.{size_of_graph};
 ghost use Rattle.mwpm_engine.specs.Passes.{IsSamePass, IsReady, IsRunning, EndsPass, Happens};
@@ -12,8 +12,8 @@ use alt_forest::Search;
 use augment::join_bounding;
 use base_types::Steps;
 use dual_change::Event;
-use event_bounds::EventBounds;
 use pass_parts::plant_all_bounding;
+use search_keys::EventBounds;
 use std::sync::ledger::Ledger;
 
 /// Makes an event happen. An augment takes the two trees away that it joins, and all others stay.
@@ -44,7 +44,7 @@ pub(crate) fn pass<L: Ledger>(
     bounds: &mut EventBounds,
     steps: &mut Steps<L>,
 ) -> bool
-    requires ready { IsReady search.old }
+    requires well_formed { IsReady search.old }
     requires near { HasNearSums (state_of search.old) search.old.clock }
     requires places { HasPlaces search.old.graph bounds.old }
     requires blossoms { search.old.arena.blossoms ≡ [] }

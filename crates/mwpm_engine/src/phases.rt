@@ -3,7 +3,7 @@ ghost use Rattle.blossom_arena.specs.declared.label.Label.TheVariants.{Out};
 ghost use Rattle.alt_forest.specs.State.{IsExposed};
 ghost use Rattle.alt_forest.specs.Searches.{IsSound, label_at, state_of};
 ghost use Rattle.alt_forest.specs.Entries.{IsQueued};
-ghost use Rattle.alt_forest.specs.Standing.{IsStanding};
+ghost use Rattle.alt_forest.specs.TreeNodes.{HasTreeNodes};
 ghost use Rattle.dual_change.specs.Changes.{IsPossible};
 ghost use Rattle.pass_parts.specs.Bounds.{IsBounded};
 ghost use Rattle.mwpm_engine.specs.Solutions.{size_of_graph};
@@ -42,7 +42,7 @@ pub(crate) fn reach<L: Ledger>(
     steps: &mut Steps<L>,
 ) -> Option<Event>
     requires growing { IsGrowing search.old }
-    requires same { graph.now ≡ search.old.graph }
+    requires same_graph { graph.now ≡ search.old.graph }
     ensures growing { IsGrowing search.new }
     ensures reached { IsReached search.new result }
     ensures keeps { KeepsCounts (state_of search.old) (state_of search.new) }
@@ -65,7 +65,7 @@ pub(crate) fn take_in<L: Ledger>(
     steps: &mut Steps<L>,
 ) -> Option<EdgeId>
     requires growing { IsGrowing search.old }
-    requires same { graph.now ≡ search.old.graph }
+    requires same_graph { graph.now ≡ search.old.graph }
     requires possible { IsPossible (state_of search.old) event }
     ensures takes { TakesOrPuts search.old steps.old search.new steps.new event result }
     ensures pass { IsSamePass search.old search.new }
@@ -96,9 +96,9 @@ pub(crate) fn take_in<L: Ledger>(
 /// memory.
 pub fn phase<L: Ledger>(search: &mut Search, graph: &Graph, steps: &mut Steps<L>) -> PhaseEnd
     requires sound { IsSound search.old }
-    requires queued { IsQueued search.old }
-    requires standing { IsStanding search.old }
-    requires same { graph.now ≡ search.old.graph }
+    requires event_times { IsQueued search.old }
+    requires listed { HasTreeNodes search.old }
+    requires same_graph { graph.now ≡ search.old.graph }
     requires labels { (a : ℕ) → label_at search.old.labels.items a ≡ Out }
     requires exposed { (a : ℕ) × IsExposed (state_of search.old) a }
     requires bounded { IsBounded (state_of search.old) search.old.start }
@@ -107,8 +107,8 @@ pub fn phase<L: Ledger>(search: &mut Search, graph: &Graph, steps: &mut Steps<L>
     // bounded.
     ensures ends { EndsPhase search.old search.new result }
     ensures sound { IsSound search.new }
-    ensures queued { IsQueued search.new }
-    ensures standing { IsStanding search.new }
+    ensures event_times { IsQueued search.new }
+    ensures listed { HasTreeNodes search.new }
     ensures bounded { IsBounded (state_of search.new) search.new.start }
     ensures pass { IsSamePass search.old search.new }
 

@@ -8,7 +8,7 @@ use crate::phases::event_of;
 use alt_forest::Search;
 use base_types::{EdgeId, Steps};
 use dual_change::{Event, apply_bounding, find_bounding};
-use event_bounds::EventBounds;
+use search_keys::EventBounds;
 use std::sync::ledger::Ledger;
 use tree_steps::{expand_bounding, grow_bounding, shrink_bounding};
 

@@ -1,7 +1,7 @@
 ghost use Rattle.std.specs.Prelude.{◌≡◌, ◌≤◌, ◌+◌, ◌*◌, ℕ, ℤ, true, MatchBool};
 ghost use Rattle.alt_forest.specs.declared.weights.Weights.TheVariants.{Given, Zero};
 ghost use Rattle.alt_forest.specs.Searches.{HasShape, IsStart};
-ghost use Rattle.event_bounds.specs.Bounds.{HasPlaces};
+ghost use Rattle.search_keys.specs.Bounds.{HasPlaces};
 ghost use Rattle.mwpm_engine.specs.Solutions.{AllWeigh, HasPerfect};
 ghost use Rattle.mwpm_engine.specs.Solving.{IsUnpacked, HasBoundedDuals, HasZeroDuals};
 ghost use Rattle.mwpm_engine.specs.Passes.{IsParted, IsEnough, Concludes, pass_total};
@@ -12,8 +12,8 @@ use crate::pass::pass;
 use alt_forest::{Search, Weights};
 use augment::unpack;
 use base_types::Steps;
-use event_bounds::EventBounds;
 use pass_parts::{common_weight, least_weight, start_pass, weigh};
+use search_keys::EventBounds;
 use std::sync::ledger::Ledger;
 
 /// A pass from the beginning, with duals and mates to start with, whose blossoms are opened at its
@@ -34,7 +34,7 @@ fn pass_anew<L: Ledger>(
     ensures ends { MatchBool result (IsUnpacked search.new) (IsParted search.new) }
     ensures sure { weights ≡ Given → result ≡ true }
     ensures bounded { result ≡ true → HasBoundedDuals search.new }
-    ensures still { weights ≡ Zero → result ≡ true → HasZeroDuals search.new }
+    ensures zero_duals { weights ≡ Zero → result ≡ true → HasZeroDuals search.new }
     ensures shape { HasShape search.new }
     ensures places { HasPlaces search.new.graph bounds.new }
     ensures graph { search.new.graph ≡ search.old.graph }

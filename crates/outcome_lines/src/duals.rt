@@ -17,7 +17,7 @@ pub fn dual_lines(
     graph: &Graph,
 ) -> Result<Vec<DualLine>, OutOfMemory>
     requires matched { engine.now.outcome ≡ Some Matched }
-    requires same { engine.now.graph ≡ graph.now }
+    requires same_graph { engine.now.graph ≡ graph.now }
     requires one_each { length engine.now.duals ≡ graph.now.vertices }
     requires in_range { All IsNumber engine.now.duals }
 

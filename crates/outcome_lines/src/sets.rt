@@ -25,8 +25,8 @@ fn find_names(
     requires matched { engine.now.outcome ≡ Some Matched }
     requires done { done < length engine.now.sets }
     requires within { AreWithin vertices engine.now.sets }
-    requires ready { AreReady vertices engine.now.sets done tables.old }
-    ensures ready { OnOk result (AreReady vertices engine.now.sets (done + 1) tables.new) }
+    requires well_formed { AreReady vertices engine.now.sets done tables.old }
+    ensures well_formed { OnOk result (AreReady vertices engine.now.sets (done + 1) tables.new) }
     ensures names { OnOk result (HaveNames engine.now.sets done tables.new) }
     ensures dual { IfOk result (λ d. d ≡ (set_from_last engine.now.sets done).dual) }
 {
@@ -58,8 +58,8 @@ fn set_line(
     requires matched { engine.now.outcome ≡ Some Matched }
     requires done { done < length engine.now.sets }
     requires within { AreWithin vertices engine.now.sets }
-    requires ready { AreReady vertices engine.now.sets done tables.old }
-    ensures ready { OnOk result (AreReady vertices engine.now.sets (done + 1) tables.new) }
+    requires well_formed { AreReady vertices engine.now.sets done tables.old }
+    ensures well_formed { OnOk result (AreReady vertices engine.now.sets (done + 1) tables.new) }
     ensures line { IfOk result (λ z. IsLineOf engine.now.sets done z) }
 {
     let dual = find_names(engine, done, tables, vertices)?;
@@ -81,7 +81,7 @@ fn put_lines(
 ) -> Result<(), OutOfMemory>
     requires matched { engine.now.outcome ≡ Some Matched }
     requires within { AreWithin vertices engine.now.sets }
-    requires ready { AreReady vertices engine.now.sets 0 tables.old }
+    requires well_formed { AreReady vertices engine.now.sets 0 tables.old }
     requires none { lines.old.items ≡ [] }
     ensures count { OnOk result (length lines.new.items ≡ length engine.now.sets) }
     ensures lines { OnOk result ((k : ℕ) (z : SetLine) → k < length lines.new.items

@@ -58,4 +58,4 @@ module _ (s : State) (start : ℤ) (h : IsBegun s start) where
         vertices = λ v is. let low = h.low v is in let more = raised_low in (omega (arith, ints, low, more), vertex_within v is);
         blossoms = λ b name. absurd (both_ways false refl (subst (λ (bs : List Blossom). holds (names_of bs) b ≡ true) h.alone name));
       }))
-      (λ w. inl (record { unweighted = w; zero = λ a is. h.still w a (vertex_alone a is) }))
+      (λ w. inl (record { unweighted = w; zero = λ a is. h.unweighted w a (vertex_alone a is) }))

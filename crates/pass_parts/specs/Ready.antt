@@ -4,13 +4,13 @@ use Rattle.blossom_arena.specs.declared.label.Label.TheVariants.{Out}
 use Rattle.alt_forest.specs.declared.search.Search.{Search}
 use Rattle.alt_forest.specs.Searches.{IsSound, state_of, label_at}
 use Rattle.alt_forest.specs.Entries.{IsQueued}
-use Rattle.alt_forest.specs.Standing.{IsStanding}
+use Rattle.alt_forest.specs.TreeNodes.{HasTreeNodes}
 use Rattle.pass_parts.specs.Bounds.{IsBounded}
 
 -- no tree, and the duals are bounded
 pub record IsReady (s : Search) : Type 0 where
   pub sound : IsSound s
-  pub queued : IsQueued s
-  pub standing : IsStanding s
+  pub event_times : IsQueued s
+  pub listed : HasTreeNodes s
   pub labels : (a : ℕ) → label_at s.labels.items a ≡ Out
   pub bounded : IsBounded (state_of s) s.start

@@ -2,7 +2,7 @@ ghost use Rattle.std.specs.Prelude.{◌≡◌, ◌≢◌, ◌≤◌, ◌+◌, Ma
 ghost use Rattle.alt_forest.specs.Searches.{IsSound, state_of};
 ghost use Rattle.alt_forest.specs.Counts.{exposed_count, tree_count, IsPlanted};
 ghost use Rattle.alt_forest.specs.Entries.{IsQueued, entry_count, looks_left};
-ghost use Rattle.alt_forest.specs.Standing.{IsStanding};
+ghost use Rattle.alt_forest.specs.TreeNodes.{HasTreeNodes};
 ghost use Rattle.pass_parts.specs.Ready.{IsReady};
 
 use alt_forest::Search;
@@ -15,23 +15,23 @@ use weighted_graph::Graph;
 /// Makes every exposed node the root of a tree of its own, and answers whether there is one. No
 /// tree stands before.
 pub fn plant_all<L: Ledger>(search: &mut Search, graph: &Graph, steps: &mut Steps<L>) -> bool
-    requires ready { IsReady search.old }
-    requires same { graph.now ≡ search.old.graph }
+    requires well_formed { IsReady search.old }
+    requires same_graph { graph.now ≡ search.old.graph }
     ensures sound { IsSound search.new }
-    ensures queued { IsQueued search.new }
-    ensures standing { IsStanding search.new }
-    ensures rest { search.new ≡ record search.old {
+    ensures event_times { IsQueued search.new }
+    ensures listed { HasTreeNodes search.new }
+    ensures frame { search.new ≡ record search.old {
       arena = record search.old.arena { motions = search.new.arena.motions };
       labels = search.new.labels;
       queue = search.new.queue;
-      standing = search.new.standing;
+      tree_nodes = search.new.tree_nodes;
       scanned = search.new.scanned;
     } }
-    ensures planted { IsPlanted (state_of search.new) }
+    ensures all_rooted { IsPlanted (state_of search.new) }
     ensures trees { MatchBool result (tree_count (state_of search.new) ≢ 0)
         (tree_count (state_of search.new) ≡ 0) }
     ensures exposed { exposed_count (state_of search.new) ≡ exposed_count (state_of search.old) }
-    ensures looks { steps.new + looks_left (state_of search.new)
+    ensures inspections { steps.new + looks_left (state_of search.new)
         ≤ steps.old + looks_left (state_of search.old) }
     ensures count { entry_count search.new.queue + steps.old ≤ entry_count search.old.queue
         + steps.new }

@@ -7,7 +7,7 @@ ghost use Rattle.alt_forest.specs.declared.weights.Weights.TheVariants.{Given, Z
 ghost use Rattle.alt_forest.specs.Searches.{IsSound, IsStart, edge_in, label_at, state_of};
 ghost use Rattle.alt_forest.specs.Counts.{exposed_count};
 ghost use Rattle.alt_forest.specs.Entries.{IsQueued};
-ghost use Rattle.alt_forest.specs.Standing.{IsStanding};
+ghost use Rattle.alt_forest.specs.TreeNodes.{HasTreeNodes};
 ghost use Rattle.alt_forest.specs.Trees.{SameParity};
 ghost use Rattle.pass_parts.specs.Bounds.{HasPerfect, IsBounded};
 ghost use Rattle.greedy_start.specs.Starts.{JoinsExposed};
@@ -31,15 +31,15 @@ use weighted_graph::Graph;
 /// times. It takes time linear in vertices and edges, and no memory.
 pub fn start_pass<L: Ledger>(search: &mut Search, steps: &mut Steps<L>)
     requires sound { IsSound search.old }
-    requires queued { IsQueued search.old }
-    requires standing { IsStanding search.old }
+    requires event_times { IsQueued search.old }
+    requires listed { HasTreeNodes search.old }
     requires start { IsStart search.old.graph search.old.weights search.old.start }
     requires blossoms { search.old.arena.blossoms ≡ [] }
     requires duals { (v : ℕ) → is_vertex search.old.graph.vertices v ≡ true
         → dual_at search.old.arena.duals v ≡ search.old.start }
     requires labels { (a : ℕ) → label_at search.old.labels.items a ≡ Out }
     requires mates { (a : ℕ) → edge_in search.old.mates.items a ≡ None }
-    ensures rest { search.new
+    ensures frame { search.new
         ≡ record search.old {
           arena = record search.old.arena { duals = search.new.arena.duals };
           mates = search.new.mates;
@@ -47,8 +47,8 @@ pub fn start_pass<L: Ledger>(search: &mut Search, steps: &mut Steps<L>)
 
     // A pass begins with feasible duals of one parity and a matching by tight edges.
     ensures sound { IsSound search.new }
-    ensures queued { IsQueued search.new }
-    ensures standing { IsStanding search.new }
+    ensures event_times { IsQueued search.new }
+    ensures listed { HasTreeNodes search.new }
     ensures bounded { (search.old.weights ≡ Given → HasPerfect search.old.graph)
         → IsBounded (state_of search.new) search.new.start }
     ensures parity { (u v : ℕ) → is_vertex search.old.graph.vertices u ≡ true
@@ -65,7 +65,8 @@ pub fn start_pass<L: Ledger>(search: &mut Search, steps: &mut Steps<L>)
     // It takes at most four inspections an edge, or ten with weights and at least ten vertices.
     ensures steps { steps.new
         ≤ steps.old + start_looks search.old.graph.vertices * length search.old.graph.edges }
-    ensures flat { search.old.weights ≡ Zero → steps.new ≤ steps.old + 4 * length search.old.graph.edges }
+    ensures flat { search.old.weights ≡ Zero → steps.new ≤ steps.old
+        + 4 * length search.old.graph.edges }
 {
     lift_all(search, steps);
     start_all(search, steps);
@@ -76,16 +77,16 @@ pub fn start_pass<L: Ledger>(search: &mut Search, steps: &mut Steps<L>)
 /// graph is the one that the search was made for.
 pub fn start_duals<L: Ledger>(search: &mut Search, graph: &Graph, steps: &mut Steps<L>)
     requires sound { IsSound search.old }
-    requires queued { IsQueued search.old }
-    requires standing { IsStanding search.old }
-    requires same { graph.now ≡ search.old.graph }
+    requires event_times { IsQueued search.old }
+    requires listed { HasTreeNodes search.old }
+    requires same_graph { graph.now ≡ search.old.graph }
     requires start { IsStart graph.now search.old.weights search.old.start }
     requires blossoms { search.old.arena.blossoms ≡ [] }
     requires duals { (v : ℕ) → is_vertex graph.now.vertices v ≡ true
         → dual_at search.old.arena.duals v ≡ search.old.start }
     requires labels { (a : ℕ) → label_at search.old.labels.items a ≡ Out }
     requires mates { (a : ℕ) → edge_in search.old.mates.items a ≡ None }
-    ensures rest { search.new
+    ensures frame { search.new
         ≡ record search.old {
           arena = record search.old.arena { duals = search.new.arena.duals };
           mates = search.new.mates;
@@ -93,8 +94,8 @@ pub fn start_duals<L: Ledger>(search: &mut Search, graph: &Graph, steps: &mut St
 
     // A pass begins with feasible duals of one parity and a matching by tight edges.
     ensures sound { IsSound search.new }
-    ensures queued { IsQueued search.new }
-    ensures standing { IsStanding search.new }
+    ensures event_times { IsQueued search.new }
+    ensures listed { HasTreeNodes search.new }
     ensures bounded { (search.old.weights ≡ Given → HasPerfect graph.now)
         → IsBounded (state_of search.new) search.new.start }
     ensures parity { (u v : ℕ) → is_vertex graph.now.vertices u ≡ true

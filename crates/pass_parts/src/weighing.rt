@@ -14,16 +14,16 @@ use blossom_arena::{Arena, NodeId};
 
 /// Gives each vertex of an arena whose vertices have the dual 0 the same dual.
 fn raise_vertices(arena: &mut Arena, dual: i64)
-    requires few { arena.old.vertex_count ≤ GRAPH_VERTEX_LIMIT }
+    requires size_limit { arena.old.vertex_count ≤ GRAPH_VERTEX_LIMIT }
     requires zero { (v : ℕ) → is_vertex arena.old.vertex_count v ≡ true
         → dual_at arena.old.duals v ≡ pos 0 }
     requires weight { IsWeight dual }
-    ensures rest { arena.new ≡ record arena.old { duals = arena.new.duals } }
+    ensures frame { arena.new ≡ record arena.old { duals = arena.new.duals } }
     ensures vertices { (v : ℕ) → is_vertex arena.old.vertex_count v ≡ true
         → dual_at arena.new.duals v ≡ dual }
     ensures others { (a : ℕ) → arena.old.vertex_count < a
         → dual_at arena.new.duals a ≡ dual_at arena.old.duals a }
-    ensures good { IsFamily arena.new }
+    ensures is_family { IsFamily arena.new }
 {
     for number in 0..arena.vertex_count() {
         arena.add_dual(NodeId::new(number + 1), i128::from(dual));
@@ -44,7 +44,7 @@ pub fn weigh(search: &mut Search, weight: i64)
 
     // A pass without weights that found a perfect matching serves for edges that all weigh the
     // same: no slack changes.
-    ensures rest { search.new ≡ record search.old {
+    ensures frame { search.new ≡ record search.old {
       arena = record search.old.arena { duals = search.new.arena.duals };
       weights = Given;
       start = weight;

@@ -2,21 +2,22 @@
 use Rattle.certificates.proofs.Common.{◌≡◌, ℕ, ◌+◌, ◌*◌, ◌≤◌, pos, ◌<ℤ◌, true, List, [], length, map, Option, Some, MatchOption, nat_abs, refl, sym, ap, ◌∙◌}
 use Rattle.certificates.proofs.Common.{subst, arith, ints, IsCircuit, walk_weight, walk-numbers, Kind, Answer, Values, asks_conservative, IsWalkWith, Network, IsNetwork, vertices, graph_of}
 use Rattle.certificates.proofs.Common.{gadget_graph, differ-once, IsNegativeCircuitWithin, Document, DocStatus, NonConservative, WalkLine, Body, blank, at_most_one, parts_of, body_of}
-use Rattle.certificates.proofs.Common.{parts_text, all_in_range_for, in-range, numbers, set_of, sets_of, HasNegativeCircuit, ProvesByStatus, StatesTruthBy, IsWalkWithin, AreWithin, not_conservative}
+use Rattle.certificates.proofs.Common.{parts_text, all_in_range_for, in-range, numbers, set_of, sets_of, HasNegativeCircuit, ProvesByStatus, StatesTruthBy, IsWalkWithin, AreWithin}
+use Rattle.certificates.proofs.Common.{not_conservative}
 use Rattle.certificates.proofs.Common.{IsInForm, few-steps}
 use Rattle.graph_parts.specs.OddParts.{IsFirstOddPart, is_terminal}
 use Rattle.doc_format.specs.declared.part.Part.TheVariants.{Walk}
 use Rattle.document_lines.specs.Lines.{line_of, walk_line}
 use Rattle.document_lines.proofs.Ascents.{numbers-pos}
 use Rattle.document_lines.proofs.Listing.{none-named}
-use Rattle.kind_answers.specs.Chosen.{IsFirstMetPart}
-use Rattle.kind_answers.specs.Settled.{Settles, SettlesBare}
-use Rattle.kind_answers.specs.Solved.{HasTrueStatus}
+use Rattle.solve_answers.specs.Chosen.{IsFirstMetPart}
+use Rattle.solve_answers.specs.Settled.{Settles, SettlesBare}
+use Rattle.solve_answers.specs.Solved.{HasTrueStatus}
 use Rattle.solve_kinds.proofs.Forms.{has_edges, some-edges}
-use Rattle.kind_answers.proofs.InRange.{walk_in}
-use Rattle.kind_answers.proofs.LineSizes.{head_circuit-size}
-use Rattle.kind_answers.proofs.SettlingSets.{none_if}
-use Rattle.kind_answers.proofs.Short.{IsShortLine, line-size, short-document}
+use Rattle.solve_answers.proofs.InRange.{walk_in}
+use Rattle.solve_answers.proofs.LineSizes.{head_circuit-size}
+use Rattle.solve_answers.proofs.SettlingSets.{none_if}
+use Rattle.solve_answers.proofs.Short.{IsShortLine, line-size, short-document}
 use Rattle.solve_kinds.proofs.ShortDocuments.{short-walk, short-line}
 use Rattle.solve_kinds.proofs.WalkLines.{walk-within}
 use Rattle.mb_problem.specs.declared.kind.AnswerForm.TheVariants as form
@@ -75,7 +76,7 @@ settles kind i start edges d asks network circuit negative p =
         beside = λ k best. absurd (let same = sym p.status ∙ best in cc);
       };
       short_walk = short-line i (answers.Walk start edges) d.walk walk (omega (arith, size));
-      small = short-document kind d (rw (p.status, p.kind_is) (head_circuit-size kind d.weight)) (omega (arith, text, same));
+      size_limit = short-document kind d (rw (p.status, p.kind_is) (head_circuit-size kind d.weight)) (omega (arith, text, same));
     }
 
 pub settles-circuit : (kind : Kind) (i : Network) (join : List ℕ) (answer : Answer) (d : Document) → asks_conservative kind ≡ true → IsNetwork i →

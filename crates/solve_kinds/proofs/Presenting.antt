@@ -9,11 +9,11 @@ use Rattle.certificates.proofs.Common.{reached-weighs, in-range, true≢false}
 use Rattle.mwpm_engine.specs.Solutions.{Solution, matching_of, IsSolved}
 use Rattle.graph_parts.specs.OddParts.{IsFirstOddPart, is_terminal}
 use Rattle.document_lines.specs.Lines.{line_of}
-use Rattle.kind_answers.specs.Chosen.{StartsFirst, IsChosenAnswer, IsFirstMetPart, IsChosen}
+use Rattle.solve_answers.specs.Chosen.{StartsFirst, IsChosenAnswer, IsFirstMetPart, IsChosen}
 use Rattle.solve_kinds.specs.Presented.{Presents}
-use Rattle.kind_answers.proofs.SettlingSets.{none_if}
+use Rattle.solve_answers.proofs.SettlingSets.{none_if}
 use Rattle.solve_kinds.proofs.AnswerForms.{stated-by}
-use Rattle.kind_answers.proofs.InRange.{counts_in, duals_in, sets_in, walk_in}
+use Rattle.solve_answers.proofs.InRange.{counts_in, duals_in, sets_in, walk_in}
 use Rattle.solve_kinds.proofs.SolvedSets.{lines-duals, lines-value}
 use Rattle.solve_kinds.proofs.WalkLines.{line-within}
 use Rattle.doc_format.specs.declared.part.Part.TheVariants as part

@@ -6,7 +6,7 @@ use Rattle.certificates.proofs.Common.{Network, IsNetwork, graph_of, ports_size,
 use Rattle.mb_problem.specs.Joins.{HasJoin}
 use Rattle.join_check.specs.Least.{IsLeastJoin}
 use Rattle.mwpm_engine.specs.Solutions.{HasPerfect, most_steps, size_of_graph}
-use Rattle.kind_answers.specs.Solved.{HasFitWeights}
+use Rattle.solve_answers.specs.Solved.{HasFitWeights}
 
 -- a graph has the vertices and edges of its size
 same-size : (size : Size) (g : Multigraph) → HasSize size g → size_of_graph g ≡ size

@@ -8,10 +8,10 @@ use Rattle.mwpm_engine.specs.Solutions.{Solution, IsSolved}
 use Rattle.least_joins.proofs.Listing.{listing}
 use Rattle.document_lines.proofs.DualLines.{lines_to, lines-duals, lines-ascend, lines-within}
 use Rattle.solve_kinds.specs.Presented.{StatesAnswer, Presents, PresentsBriefly, PresentsFor}
-use Rattle.kind_answers.specs.Settled.{Settles, SettlesBare, SettlesFor}
-use Rattle.kind_answers.specs.Solved.{HasTrueStatus, HasFitWeights}
+use Rattle.solve_answers.specs.Settled.{Settles, SettlesBare, SettlesFor}
+use Rattle.solve_answers.specs.Solved.{HasTrueStatus, HasFitWeights}
 use Rattle.solve_kinds.proofs.Forms.{form-completed}
-use Rattle.kind_answers.proofs.InRange.{sets-formed}
+use Rattle.solve_answers.proofs.InRange.{sets-formed}
 use Rattle.solve_kinds.proofs.Presenting.{Solves, proved-optimal, chosen-optimal}
 use Rattle.solve_kinds.proofs.ShortDocuments.{short-line, short-optimal}
 use Rattle.solve_kinds.proofs.SolvedSets.{solved-lines}
@@ -26,7 +26,7 @@ settles-optimal kind i s d few fit of p =
       exact = subst (HasTrueStatus kind i) (sym p.states.status) ((p.states.answer, p.states.feasible), fit);
       chosen = chosen-optimal kind i s d of.duals p;
       short_walk = short-line i p.states.answer d.walk p.states.walk p.states.few_steps;
-      small = short-optimal kind i s d of.network few of.solved p;
+      size_limit = short-optimal kind i s d of.network few of.solved p;
     }
 
 -- ---- what is written

@@ -8,11 +8,11 @@ use Rattle.mwpm_engine.specs.Solutions.{Solution, IsSolved}
 use Rattle.document_lines.specs.Lines.{line_of, walk_line}
 use Rattle.document_lines.specs.Sets.{item_total}
 use Rattle.solve_kinds.specs.Presented.{Presents}
-use Rattle.kind_answers.specs.Stands.{HasFewSteps}
-use Rattle.kind_answers.specs.Settled.{byte_limit_of}
-use Rattle.kind_answers.proofs.LineSizes.{count-size, dual-size, walk-size, head-size}
+use Rattle.solve_answers.specs.Stands.{HasFewSteps}
+use Rattle.solve_answers.specs.Settled.{byte_limit_of}
+use Rattle.solve_answers.proofs.LineSizes.{count-size, dual-size, walk-size, head-size}
 use Rattle.solve_kinds.proofs.Presenting.{are-duals}
-use Rattle.kind_answers.proofs.Short.{IsShortLine, IsSetShort, lines-size, line-size, sets-size, four-size, short-document}
+use Rattle.solve_answers.proofs.Short.{IsShortLine, IsSetShort, lines-size, line-size, sets-size, four-size, short-document}
 use Rattle.solve_kinds.proofs.WalkLines.{line-within}
 use Rattle.mb_problem.specs.declared.answer.Answer.TheVariants as answers
 
@@ -49,8 +49,8 @@ sets-text kind i s d few solved p =
     let n = s.graph.vertices in
     let most : n ≤ 16384 = few in
     let as_many : length d.sets ≡ length s.sets = p.sets.one_each in
-    let sets : length s.sets ≤ (n - 1) / 2 = solved.few in
-    let items : item_total d.sets ≤ n + length d.sets = p.sets.few in
+    let sets : length s.sets ≤ (n - 1) / 2 = solved.size_limit in
+    let items : item_total d.sets ≤ n + length d.sets = p.sets.size_limit in
     let short = short-sets n d.sets (omega (arith, as_many, sets, most)) p.sets.within in
     let text : length (parts_text (map Set d.sets)) ≤ 7 * item_total d.sets + 44 * length d.sets =
     sets-size n d.sets few (omega (arith, items, as_many, sets, most)) short in
@@ -68,14 +68,14 @@ short-optimal kind i s d network few solved p =
     let line : IsShortLine Walk 2800000 (line_of p.states.answer) = answer-walk i p.states.answer network p.states.few_steps (line-within kind i p.states.answer network p.states.feasible) in
     let counts : length (parts_text (map Count d.counts)) ≤ 65536 * 44 = lines-size Count 65536 44 d.counts
     (record {
-      few = omega arith;
+      size_limit = omega arith;
       short = All-weaker (IsCountWithin m) (λ x. length (row_text (part_row (Count x))) ≤ 44)
           (λ x w. count-size m x few_edges w) d.counts p.states.counts_within;
     }) in
     let walk = line-size Walk 2800000 d.walk (subst (IsShortLine Walk 2800000) (sym p.states.walk) line) in
     let duals : length (parts_text (map Dual d.duals)) ≤ 16384 * 44 =
     lines-size Dual 16384 44 d.duals
-    (record { few = omega arith; short = All-weaker (IsDualWithin n) (λ y. length (row_text (part_row (Dual y))) ≤ 44) (λ y w. dual-size n y few w) d.duals p.duals_within }) in
+    (record { size_limit = omega arith; short = All-weaker (IsDualWithin n) (λ y. length (row_text (part_row (Dual y))) ≤ 44) (λ y w. dual-size n y few w) d.duals p.duals_within }) in
     let sets = sets-text kind i s d few solved p in
     let all = four-size (map Count d.counts) (at_most_one Walk d.walk) (map Dual d.duals) (map Set d.sets) in
     let same : length (parts_text (parts_of (body_of d))) ≡ length (parts_text (map Count d.counts ++ (at_most_one Walk d.walk ++ (map Dual d.duals ++ (map Set d.sets ++ []))))) =

@@ -17,8 +17,8 @@ use Rattle.certificates.specs.Within.{IsCountWithin, IsDualWithin}
 use Rattle.mwpm_engine.specs.Solutions.{Solution, matching_of}
 use Rattle.document_lines.specs.Lines.{ListsAnswer, line_of}
 use Rattle.document_lines.specs.Sets.{ListsSets}
-use Rattle.kind_answers.specs.Chosen.{IsChosenAnswer}
-use Rattle.kind_answers.specs.Stands.{HasFewSteps}
+use Rattle.solve_answers.specs.Chosen.{IsChosenAnswer}
+use Rattle.solve_answers.specs.Stands.{HasFewSteps}
 
 -- its value is at most the weight of the matching, doubled
 abbrev pub PaysFor : Kind → Network → Solution → Answer → Type 0

@@ -10,15 +10,15 @@ ghost use Rattle.mb_problem.specs.Ready.{HasWeightsFromZero};
 ghost use Rattle.mb_problem.specs.Size.{size_of, odd_at};
 ghost use Rattle.join_check.specs.Least.{IsLeastJoin};
 ghost use Rattle.mwpm_engine.specs.Solutions.{most_steps};
-ghost use Rattle.kind_answers.specs.Settled.{SettlesOrIsFit};
+ghost use Rattle.solve_answers.specs.Settled.{SettlesOrIsFit};
 
 use conservative_paths::{laws, negative_circuit};
 use doc_format::{DocStatus, Document, Head};
 use document_lines::walk_line;
-use kind_answers::as_counts;
 use least_joins::least_join;
 use mb_base::{OutOfMemory, Steps};
 use mb_problem::{Instance, Join, Kind, Parity, weight};
+use solve_answers::as_counts;
 use std::alloc::Global;
 use std::sync::ledger::Ledger;
 

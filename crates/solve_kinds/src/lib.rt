@@ -1,5 +1,5 @@
 //! Documents for instances: a best answer with the certificate that proves it best, or what
-//! excludes every answer. It depends on `mwpm_engine` for the search, on `kind_answers` for the
+//! excludes every answer. It depends on `mwpm_engine` for the search, on `solve_answers` for the
 //! answers that matchings stand for and what excludes answers without a search, on `least_joins`
 //! and `conservative_paths` for even sets of edges, on `outcome_lines` for the lines of documents,
 //! and on `certificates` for what a document has to prove. It promises that every document proves
@@ -11,5 +11,5 @@ mod optimal;
 mod searching;
 mod solving;
 
-pub use kind_answers::{DOCUMENT_BYTE_LIMIT, PATHS_BYTE_LIMIT, infeasible_by};
+pub use solve_answers::{DOCUMENT_BYTE_LIMIT, PATHS_BYTE_LIMIT, infeasible_by};
 pub use solving::{solve, solve_brief};

@@ -9,20 +9,20 @@ ghost use Rattle.mb_problem.specs.Network.{IsNetwork};
 ghost use Rattle.gadget_base.specs.Certified.{gadget_graph, ReachesAll};
 ghost use Rattle.mwpm_engine.specs.Solutions.{IsSolved, Solution};
 ghost use Rattle.mwpm_engine.specs.declared.outcome.Outcome.TheVariants.{Matched};
-ghost use Rattle.kind_answers.specs.Chosen.{IsChosenAnswer};
-ghost use Rattle.kind_answers.specs.Open.{IsOpen};
+ghost use Rattle.solve_answers.specs.Chosen.{IsChosenAnswer};
+ghost use Rattle.solve_answers.specs.Open.{IsOpen};
 ghost use Rattle.solve_kinds.specs.Presented.{PaysFor};
-ghost use Rattle.kind_answers.specs.Stands.{HasFewSteps};
+ghost use Rattle.solve_answers.specs.Stands.{HasFewSteps};
 ghost use Rattle.solve_kinds.specs.Presented.{Presents, PresentsBriefly, PresentsFor};
 
 use doc_format::{DocStatus, Document, Head};
 use document_lines::{count_lines, walk_line};
-use kind_answers::answer;
 use least_joins::matching;
 use mb_base::{OutOfMemory, Sequence};
 use mb_problem::{Answer, Instance, Kind, weight};
 use mwpm_engine::Engine;
 use outcome_lines::{dual_lines, set_lines};
+use solve_answers::answer;
 use std::alloc::Global;
 use weighted_graph::Graph;
 
@@ -76,12 +76,12 @@ fn answered(
 ) -> Result<Document, OutOfMemory>
     requires network { IsNetwork instance.now }
     requires duals { are_duals (proof_of kind) ≡ true }
-    requires ready { IsOpen kind instance.now }
+    requires well_formed { IsOpen kind instance.now }
     requires matched { engine.now.outcome ≡ Some Matched }
-    requires same { engine.now.graph ≡ graph.now }
+    requires same_graph { engine.now.graph ≡ graph.now }
     requires solved { IsSolved engine.now }
-    requires good { IsGraph graph.now }
-    requires plain { HasNoLoop graph.now }
+    requires is_graph { IsGraph graph.now }
+    requires loopless { HasNoLoop graph.now }
     requires certified { graph.now ≡ gadget_graph kind instance.now }
     requires few_vertices { graph.now.vertices ≤ GRAPH_VERTEX_LIMIT }
     requires reached { ReachesAll kind instance.now }
@@ -106,12 +106,12 @@ fn certified(
 ) -> Result<Document, OutOfMemory>
     requires network { IsNetwork instance.now }
     requires duals { are_duals (proof_of kind) ≡ true }
-    requires ready { IsOpen kind instance.now }
+    requires well_formed { IsOpen kind instance.now }
     requires matched { engine.now.outcome ≡ Some Matched }
-    requires same { engine.now.graph ≡ graph.now }
+    requires same_graph { engine.now.graph ≡ graph.now }
     requires solved { IsSolved engine.now }
-    requires good { IsGraph graph.now }
-    requires plain { HasNoLoop graph.now }
+    requires is_graph { IsGraph graph.now }
+    requires loopless { HasNoLoop graph.now }
     requires certified { graph.now ≡ gadget_graph kind instance.now }
     requires few_vertices { graph.now.vertices ≤ GRAPH_VERTEX_LIMIT }
     requires reached { ReachesAll kind instance.now }
@@ -137,12 +137,12 @@ pub fn optimal(
 ) -> Result<Document, OutOfMemory>
     requires network { IsNetwork instance.now }
     requires duals { are_duals (proof_of kind) ≡ true }
-    requires ready { IsOpen kind instance.now }
+    requires well_formed { IsOpen kind instance.now }
     requires matched { engine.now.outcome ≡ Some Matched }
-    requires same { engine.now.graph ≡ graph.now }
+    requires same_graph { engine.now.graph ≡ graph.now }
     requires solved { IsSolved engine.now }
-    requires good { IsGraph graph.now }
-    requires plain { HasNoLoop graph.now }
+    requires is_graph { IsGraph graph.now }
+    requires loopless { HasNoLoop graph.now }
     requires certified { graph.now ≡ gadget_graph kind instance.now }
     requires few_vertices { graph.now.vertices ≤ GRAPH_VERTEX_LIMIT }
     requires reached { ReachesAll kind instance.now }

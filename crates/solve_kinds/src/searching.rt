@@ -2,7 +2,7 @@ ghost use Rattle.std.specs.Prelude.{◌≡◌, ◌≤◌, ◌+◌, ◌*◌, true
 ghost use Rattle.graph_theory.specs.declared.limits.TheConstants.{GRAPH_VERTEX_LIMIT};
 ghost use Rattle.graph_theory.specs.Limits.{IsWithinLimits};
 ghost use Rattle.graph_theory.specs.Parts.{IsVertexSet};
-ghost use Rattle.mb_problem.specs.Kinds.{are_duals, exclusion_of, proof_of};
+ghost use Rattle.mb_problem.specs.Kinds.{are_duals, obstruction_of, proof_of};
 ghost use Rattle.mb_problem.specs.Network.{IsNetwork};
 ghost use Rattle.mb_problem.specs.Ready.{HasNeededWeights};
 ghost use Rattle.mb_problem.specs.Size.{size_of};
@@ -11,20 +11,20 @@ ghost use Rattle.doc_format.specs.declared.status.DocStatus.TheVariants.{Optimal
 ghost use Rattle.doc_format.specs.Form.{is_barrier, is_never};
 ghost use Rattle.mwpm_engine.specs.Solutions.{HasPerfect, most_steps, size_of_graph};
 ghost use Rattle.mwpm_engine.specs.declared.outcome.Outcome.TheVariants.{Barrier};
-ghost use Rattle.kind_answers.specs.Excluding.{StatesSet};
-ghost use Rattle.kind_answers.specs.Open.{IsOpen};
-ghost use Rattle.kind_answers.specs.Settled.{SettlesFor};
-ghost use Rattle.kind_answers.specs.Solved.{HasFitWeights};
+ghost use Rattle.solve_answers.specs.Excluding.{StatesSet};
+ghost use Rattle.solve_answers.specs.Open.{IsOpen};
+ghost use Rattle.solve_answers.specs.Settled.{SettlesFor};
+ghost use Rattle.solve_answers.specs.Solved.{HasFitWeights};
 
 use crate::optimal::optimal;
 use certificates::certified;
 use doc_format::Document;
 use graph_theory::GRAPH_VERTEX_LIMIT;
-use kind_answers::infeasible;
 use least_joins::barrier_vertices;
 use mb_base::{OutOfMemory, Steps};
-use mb_problem::{Exclusion, Instance, Kind};
+use mb_problem::{Instance, Kind, Obstruction};
 use mwpm_engine::{Engine, Outcome};
+use solve_answers::infeasible;
 use std::alloc::Global;
 use std::sync::ledger::Ledger;
 use weighted_graph::Graph;
@@ -37,17 +37,17 @@ fn barred(
     graph: &Graph,
 ) -> Result<Document, OutOfMemory>
     requires barrier { engine.now.outcome ≡ Some Barrier }
-    requires same { engine.now.graph ≡ graph.now }
+    requires same_graph { engine.now.graph ≡ graph.now }
     requires set { IsVertexSet graph.now.vertices engine.now.barrier }
-    requires kind { is_never (exclusion_of kind) ≡ false }
+    requires kind { is_never (obstruction_of kind) ≡ false }
     ensures { IfOk result (StatesSet kind engine.now.barrier) }
 {
     let set = barrier_vertices(alloc, engine, graph)?;
     infeasible(alloc, kind, &set)
 }
 
-/// The document of a best answer or of a barrier, by one run of the engine, for a kind whose answers
-/// a barrier can exclude.
+/// The document of a best answer or of a barrier, by one run of the engine, for a kind whose
+/// answers a barrier can exclude.
 fn decided<L: Ledger>(
     alloc: Global,
     instance: &Instance,
@@ -57,14 +57,14 @@ fn decided<L: Ledger>(
     steps: &mut Steps<L>,
 ) -> Result<Document, OutOfMemory>
     requires network { IsNetwork instance.now }
-    requires fresh { engine.old.outcome ≡ None }
+    requires not_run { engine.old.outcome ≡ None }
     requires duals { are_duals (proof_of kind) ≡ true }
-    requires ready { IsOpen kind instance.now }
-    requires fit { HasFitWeights kind instance.now }
-    requires few { engine.old.graph.vertices ≤ GRAPH_VERTEX_LIMIT }
+    requires well_formed { IsOpen kind instance.now }
+    requires conservative { HasFitWeights kind instance.now }
+    requires size_limit { engine.old.graph.vertices ≤ GRAPH_VERTEX_LIMIT }
     requires certified { engine.old.graph ≡ gadget_graph kind instance.now }
     requires reached { ReachesAll kind instance.now }
-    requires barrier { is_barrier (exclusion_of kind) ≡ true }
+    requires barrier { is_barrier (obstruction_of kind) ≡ true }
     ensures settled { IfOk result (SettlesFor brief kind instance.now) }
     ensures steps { steps.new ≤ steps.old + most_steps (size_of_graph engine.old.graph) }
 {
@@ -85,11 +85,11 @@ fn assured<L: Ledger>(
     steps: &mut Steps<L>,
 ) -> Result<Document, OutOfMemory>
     requires network { IsNetwork instance.now }
-    requires fresh { engine.old.outcome ≡ None }
+    requires not_run { engine.old.outcome ≡ None }
     requires duals { are_duals (proof_of kind) ≡ true }
-    requires ready { IsOpen kind instance.now }
-    requires fit { HasFitWeights kind instance.now }
-    requires few { engine.old.graph.vertices ≤ GRAPH_VERTEX_LIMIT }
+    requires well_formed { IsOpen kind instance.now }
+    requires conservative { HasFitWeights kind instance.now }
+    requires size_limit { engine.old.graph.vertices ≤ GRAPH_VERTEX_LIMIT }
     requires certified { engine.old.graph ≡ gadget_graph kind instance.now }
     requires reached { ReachesAll kind instance.now }
     requires perfect { HasPerfect engine.old.graph }
@@ -112,21 +112,22 @@ fn settled<L: Ledger>(
     steps: &mut Steps<L>,
 ) -> Result<Document, OutOfMemory>
     requires network { IsNetwork instance.now }
-    requires fresh { engine.old.outcome ≡ None }
+    requires not_run { engine.old.outcome ≡ None }
     requires duals { are_duals (proof_of kind) ≡ true }
-    requires ready { IsOpen kind instance.now }
-    requires fit { HasFitWeights kind instance.now }
-    requires few { engine.old.graph.vertices ≤ GRAPH_VERTEX_LIMIT }
+    requires well_formed { IsOpen kind instance.now }
+    requires conservative { HasFitWeights kind instance.now }
+    requires size_limit { engine.old.graph.vertices ≤ GRAPH_VERTEX_LIMIT }
     requires certified { engine.old.graph ≡ gadget_graph kind instance.now }
     requires reached { ReachesAll kind instance.now }
-    requires perfect { is_barrier (exclusion_of kind) ≡ false → HasPerfect engine.old.graph }
+    requires perfect { is_barrier (obstruction_of kind) ≡ false → HasPerfect engine.old.graph }
     ensures settled { IfOk result (SettlesFor brief kind instance.now) }
-    ensures best { IfOk result (λ d. is_barrier (exclusion_of kind) ≡ false → d.status ≡ Optimal) }
+    ensures best { IfOk result (λ d. is_barrier (obstruction_of kind) ≡ false → d.status
+        ≡ Optimal) }
     ensures steps { steps.new ≤ steps.old + most_steps (size_of_graph engine.old.graph) }
-    ensures half { is_barrier (exclusion_of kind) ≡ false
+    ensures half { is_barrier (obstruction_of kind) ≡ false
         → 2 * steps.new ≤ 2 * steps.old + most_steps (size_of_graph engine.old.graph) }
 {
-    if kind.exclusion() == Exclusion::Barrier {
+    if kind.obstruction() == Obstruction::Barrier {
         return decided(alloc, instance, kind, brief, engine, steps);
     }
     assured(alloc, instance, kind, brief, engine, steps)
@@ -145,12 +146,13 @@ pub fn searched<L: Ledger>(
     requires limits { IsWithinLimits (size_of kind instance.now) }
     requires weights { HasNeededWeights kind instance.now }
     requires duals { are_duals (proof_of kind) ≡ true }
-    requires ready { IsOpen kind instance.now }
-    requires fit { HasFitWeights kind instance.now }
+    requires well_formed { IsOpen kind instance.now }
+    requires conservative { HasFitWeights kind instance.now }
     ensures settled { IfOk result (SettlesFor brief kind instance.now) }
-    ensures best { IfOk result (λ d. is_barrier (exclusion_of kind) ≡ false → d.status ≡ Optimal) }
+    ensures best { IfOk result (λ d. is_barrier (obstruction_of kind) ≡ false → d.status
+        ≡ Optimal) }
     ensures steps { steps.new ≤ steps.old + most_steps (size_of kind instance.now) }
-    ensures half { is_barrier (exclusion_of kind) ≡ false
+    ensures half { is_barrier (obstruction_of kind) ≡ false
         → 2 * steps.new ≤ 2 * steps.old + most_steps (size_of kind instance.now) }
 {
     let graph = certified(alloc, instance, kind)?;

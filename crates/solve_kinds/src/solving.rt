@@ -7,17 +7,17 @@ ghost use Rattle.doc_format.specs.Spelling.{document_text};
 ghost use Rattle.doc_format.specs.declared.status.DocStatus.TheVariants.{Infeasible};
 ghost use Rattle.certificates.specs.Proved.{IsProved, StatesTruth};
 ghost use Rattle.mwpm_engine.specs.Solutions.{most_steps};
-ghost use Rattle.kind_answers.specs.Chosen.{IsChosen};
-ghost use Rattle.kind_answers.specs.Settled.{HasShortWalk, IsWrittenFor, Settles};
-ghost use Rattle.kind_answers.specs.Settled.{SettlesFor, byte_limit_of};
-ghost use Rattle.kind_answers.specs.Solved.{HasTrueStatus, is_tested_first};
+ghost use Rattle.solve_answers.specs.Chosen.{IsChosen};
+ghost use Rattle.solve_answers.specs.Settled.{HasShortWalk, IsWrittenFor, Settles};
+ghost use Rattle.solve_answers.specs.Settled.{SettlesFor, byte_limit_of};
+ghost use Rattle.solve_answers.specs.Solved.{HasTrueStatus, is_tested_first};
 
 use crate::conservative::unfit;
 use crate::searching::searched;
 use doc_format::Document;
-use kind_answers::excluded;
 use mb_base::{OutOfMemory, Steps};
 use mb_problem::{EDGE_LIMIT, Instance, Kind};
+use solve_answers::excluded;
 use std::alloc::Global;
 use std::sync::ledger::Ledger;
 
@@ -32,7 +32,7 @@ fn solve_for<L: Ledger>(
 ) -> Result<Document, OutOfMemory>
     requires limits { IsWithinLimits (size_of kind instance.now) }
     requires duals { are_duals (proof_of kind) ≡ true }
-    requires ready { IsReady kind instance.now }
+    requires well_formed { IsReady kind instance.now }
     ensures settled { IfOk result (SettlesFor brief kind instance.now) }
     ensures steps { steps.new ≤ steps.old
         + searches_of kind * most_steps (size_of kind instance.now) }
@@ -76,7 +76,7 @@ pub fn solve<L: Ledger>(
 ) -> Result<Document, OutOfMemory>
     requires limits { IsWithinLimits (size_of kind instance.now) }
     requires duals { are_duals (proof_of kind) ≡ true }
-    requires ready { IsReady kind instance.now }
+    requires well_formed { IsReady kind instance.now }
 
     // The document proves its answer.
     ensures proved { IfOk result (IsProved kind instance.now) }
@@ -93,7 +93,7 @@ pub fn solve<L: Ledger>(
     ensures chosen { IfOk result (IsChosen kind instance.now) }
 
     // Its text has at most 8 MiB.
-    ensures small { IfOk result (λ d. length (document_text d false) ≤ byte_limit_of kind) }
+    ensures size_limit { IfOk result (λ d. length (document_text d false) ≤ byte_limit_of kind) }
 
     // A walk has at most twice as many edges as the instance.
     ensures short_walk { IfOk result (HasShortWalk instance.now) }
@@ -129,7 +129,7 @@ pub fn solve_brief<L: Ledger>(
 ) -> Result<Document, OutOfMemory>
     requires limits { IsWithinLimits (size_of kind instance.now) }
     requires duals { are_duals (proof_of kind) ≡ true }
-    requires ready { IsReady kind instance.now }
+    requires well_formed { IsReady kind instance.now }
 
     // A document to be written without certificate, with the text of one of which all of this
     // holds, and without duals and odd sets.

@@ -35,7 +35,7 @@ fn expect_agreement(
     name: &str,
     instance: &Instance,
 ) -> Result<(), Fail>
-    requires ready { IsReady kind instance.now }
+    requires well_formed { IsReady kind instance.now }
     requires counted { is_counted kind ≡ true }
 {
     let best = best_weight(rt, alloc, instance, kind)?;

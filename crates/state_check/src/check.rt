@@ -41,7 +41,7 @@ pub fn is_search_graph(graph: &Graph) -> bool
 /// Whether the lists of a search by node have their lengths, and its arena is one for its graph.
 fn has_shape(search: &Search) -> bool
     requires room { HasRoom search.now.graph search.now.incidence search.now.queue
-        (length search.now.standing.seeds) (vec_capacity search.now.scanned) }
+        (length search.now.tree_nodes.tree_ids) (vec_capacity search.now.scanned) }
     ensures { (result ≡ true) ↔ HasShape search.now }
 {
     if !is_search_graph(&search.graph) {
@@ -66,11 +66,11 @@ fn has_shape(search: &Search) -> bool
 /// Whether a search is in the state of a search (chapters 24 and 26), exactly: it recomputes each
 /// part from the lists. It is for tests of searches whose fields were written by hand, and slow:
 /// for n vertices and m edges its time is at most linear in n (n + m). It counts no step and takes
-/// no memory. Which edges are listed by vertex, and what the queue and the seeds have places for,
-/// is the caller's to know: `Search::new` makes them fit the graph, and no call changes that.
+/// no memory. Which edges are listed by vertex, and what the queue and the tree ids have places
+/// for, is the caller's to know: `Search::new` makes them fit the graph, and no call changes that.
 pub fn check_search(search: &Search) -> bool
     requires room { HasRoom search.now.graph search.now.incidence search.now.queue
-        (length search.now.standing.seeds) (vec_capacity search.now.scanned) }
+        (length search.now.tree_nodes.tree_ids) (vec_capacity search.now.scanned) }
 
     // A plain check of a search, for tests: it passes exactly the states that are sound.
     ensures exact { (result ≡ true) ↔ IsSound search.now }

@@ -1,7 +1,7 @@
 ghost use Rattle.std.specs.Prelude.{◌≡◌, length};
 
-use edge_queue::{EdgeQueue, Item};
 use mb_base::EdgeId;
+use search_heap::{EdgeQueue, Item};
 use std::alloc::Global;
 
 /// The edges that may have a moment.

@@ -1,7 +1,7 @@
 ghost use Rattle.std.specs.Prelude.{◌≡◌, length};
 
 use blossom_arena::NodeId;
-use edge_queue::{Item, RisingQueue};
+use search_heap::{Item, RisingQueue};
 use std::alloc::Global;
 
 /// The nodes that can have a moment.

@@ -2,10 +2,10 @@
 use Rattle.alt_forest.proofs.Common.{◌≡◌, ℕ, ℤ, ◌≤◌, true, false, List, Option, ap, ◌∙◌, both_ways, false_from_ne_true, Multigraph, holds, Blossom, IsNested, is_vertex}
 use Rattle.alt_forest.proofs.Common.{names_of, name_no_vertex, Item, with_moment, places_stay, HasShape}
 use Rattle.alt_forest.specs.declared.search.Search.{Search}
-use Rattle.event_bounds.specs.declared.bounds.EventBounds.{EventBounds}
-use Rattle.event_bounds.specs.Bounds.{HasHints, HasPlaces, hint_of, key_of}
-use Rattle.event_bounds.specs.Looks.{is_stale_at, stale_ends}
-use Rattle.event_bounds.proofs.Stale.{KeepsOuter, stale_fewer, stale_still}
+use Rattle.search_keys.specs.declared.bounds.EventBounds.{EventBounds}
+use Rattle.search_keys.specs.Bounds.{HasHints, HasPlaces, hint_of, key_of}
+use Rattle.search_keys.specs.Looks.{is_stale_at, stale_ends}
+use Rattle.search_keys.proofs.Stale.{KeepsOuter, stale_fewer, stale_still}
 
 -- a vertex is no blossom
 pub vertex_no_name : (n : ℕ) (bs : List Blossom) (v : ℕ) → IsNested n bs → is_vertex n v ≡ true → holds (names_of bs) v ≡ false

@@ -4,7 +4,7 @@ use Rattle.alt_forest.proofs.Common.{Option, Some, None, refl, sym, ap, ap₂, �
 use Rattle.alt_forest.proofs.Common.{both_ways, false_from_ne_true, same_Some, edge_of, holds, Link, Outer, Inner, IsNested, in_ring, outermost, by_test, room_for_circuit, State}
 use Rattle.alt_forest.proofs.Common.{IsOutermost, IsTight, Joins, node_u, node_v, IsMate, IsSearchState, CanShrink, IsSound, state_of, up_of, up_edge_by, path_of, root_of, first_common}
 use Rattle.alt_forest.proofs.Common.{AreHops, links_up, hop_above, hop_path, partner_unique, path_of-step, nested_of, outer_not_inner, outer_not_out, some_not_none, some_node, path_root}
-use Rattle.alt_forest.specs.declared.hop.Hop.{Hop}
+use Rattle.alt_forest.specs.declared.grandparent.GrandparentLink.{GrandparentLink}
 use Rattle.alt_forest.specs.declared.search.Search.{Search}
 use Rattle.tree_steps.specs.Circuits.{before, circuit_of, or_zero, links_above, base_of, closed_by}
 use Rattle.tree_steps.specs.Shrinkable.{AreInOneTree, Closes, IsShrinkable}
@@ -40,9 +40,9 @@ common_first (x ∷ xs) ys base e = by_test (holds ys x)
           (or_cases (eqb x c) (holds (before xs base) c) (sym (ap (λ ys. holds ys c) (before_past x base xs ne)) ∙ r));
     })
 
--- a node of the path that is outer: hops lead to it, and leave the nodes before it behind
+-- a node of the path that is outer: grandparent links lead to it, and leave the nodes before it behind
 pub record FoundOuter (s : State) (depth : ℕ → ℕ) (x base : ℕ) : Type 0 where
-  pub hops : List Hop
+  pub hops : List GrandparentLink
   pub way : AreHops s depth x hops base
   pub links : links_up x hops ≡ links_above s (before (path_of s x) base)
   pub outer : s.label base ≡ Outer
@@ -85,7 +85,7 @@ module _ (s : State) (depth : ℕ → ℕ) (nested : IsNested s.graph.vertices s
       by_mate ne again None none = absurd (⊎_elim (λ here. ne (eqb-true x base here)) (λ more. both_ways false refl more)
           (or_cases (eqb x base) false (sym (ap (λ xs. holds xs base) (path_root s depth nested st x (record { outermost = is; outer = outer; exposed = none }))) ∙ there)))
       by_mate ne again (Some f) has =
-          let hop : Hop = (hop_above s depth x f st is outer has).0 in
+          let hop : GrandparentLink = (hop_above s depth x f st is outer has).0 in
           let h = (hop_above s depth x f st is outer has).1 in let rest : List ℕ = path_of s hop.outer in
           let whole : path_of s x ≡ x ∷ (hop.inner ∷ rest) = hop_path s depth x hop h depth nested st in
           let first : before (path_of s x) base ≡ x ∷ before (hop.inner ∷ rest) base = ap (λ xs. before xs base) whole ∙ before_past x base (hop.inner ∷ rest) ne in
@@ -183,7 +183,7 @@ closes f e u v a b base h can from to from_is to_is meets =
       is = is;
       base_is = found;
       closes = record {
-        can = record { depth = h.depth; state = h.state; shrinkable = subst (IsShrinkable s h.depth (closed_by s e)) found shrinks_is };
+        possible = record { depth = h.depth; state = h.state; shrinkable = subst (IsShrinkable s h.depth (closed_by s e)) found shrinks_is };
         u_on = ap₂ (λ (ls : List Link) x. in_ring ls x) (sym is) (sym at_u) ∙ on_circuit base e (links_above s xs) (links_above s ys) a
             (⊎_elim (λ at. inl at) (λ r. inr (inl (links_have s xs a ∙ r))) (start_on s h.depth nested h.state a base ends.a_is));
         v_on = ap₂ (λ (ls : List Link) x. in_ring ls x) (sym is) (sym at_v) ∙ on_circuit base e (links_above s xs) (links_above s ys) b

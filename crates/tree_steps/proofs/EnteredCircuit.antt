@@ -1,7 +1,7 @@
 -- The first nodes of a circuit get their moments, one after another.
 use Rattle.alt_forest.proofs.Common.{[], ◌∷◌, ◌++◌, ◌≡◌, ◌≢◌, ℕ, ℤ, true, false, List, sym, ap, ◌∙◌, subst, ⊎_elim, cases_eq, holds, Link, names_of}
 use Rattle.alt_forest.proofs.Common.{Moments, moment_of, State, IsBlossomEntered}
-use Rattle.edge_queue.specs.declared.item.Item.TheVariants.{Blossom as OfBlossom}
+use Rattle.search_heap.specs.declared.item.Item.TheVariants.{Blossom as OfBlossom}
 use Rattle.tree_steps.specs.Moving.{AreEntered}
 use Rattle.tree_steps.proofs.Among.{more_cases, off_parts}
 

@@ -12,7 +12,7 @@ use Rattle.alt_forest.proofs.Common.{root_self, AreTrees, tree_root, all_holds, 
 use Rattle.std.specs.Option.{is_some}
 use Rattle.std.specs.Cmp.{both_ways as same_tests}
 use Rattle.alt_forest.specs.declared.search.Search.{Search}
-use Rattle.edge_queue.specs.declared.item.Item.TheVariants.{Blossom as OfBlossom}
+use Rattle.search_heap.specs.declared.item.Item.TheVariants.{Blossom as OfBlossom}
 use Rattle.tree_steps.specs.Expanded.{child_at, IsExpanded, IsOpening, AreRootsOpened}
 use Rattle.tree_steps.specs.Left.{Leaves}
 use Rattle.tree_steps.proofs.Carried.{Hangs, inner_hangs}
@@ -29,10 +29,10 @@ pub record CanOpen (s : State) (depth : ℕ → ℕ) (a : ℕ) : Type 0 where
   pub graph : IsGraph s.graph
   pub nested : IsNested s.graph.vertices s.blossoms
   pub state : IsSearchState s depth
-  pub can : CanExpand s a
+  pub possible : CanExpand s a
 
 pub can_open : (f : Search) (a : ℕ) → (h : IsSound f) → CanExpand (state_of f) a → CanOpen (state_of f) h.depth a
-can_open f a h can = record { graph = h.shape.graph.graph; nested = nested_of f h.shape; state = h.state; can = can }
+can_open f a h can = record { graph = h.shape.graph.graph; nested = nested_of f h.shape; state = h.state; possible = can }
 
 module _ {s : State} {depth : ℕ → ℕ} {a : ℕ} (h : CanOpen s depth a) where
   abbrev n : ℕ
@@ -45,13 +45,13 @@ module _ {s : State} {depth : ℕ → ℕ} {a : ℕ} (h : CanOpen s depth a) whe
   ring = ring_of bs a
 
   pub above : n < a
-  above = (name_range n bs a h.nested h.can.blossom).0
+  above = (name_range n bs a h.nested h.possible.blossom).0
 
   pub free : is_child bs a ≡ false
-  free = (outermost_parts n bs a h.can.outermost).1
+  free = (outermost_parts n bs a h.possible.outermost).1
 
   pub says : IsInner s depth a
-  says = (h.state.labels a h.can.outermost).inner h.can.inner
+  says = (h.state.labels a h.possible.outermost).inner h.possible.inner
 
   -- the edges of its mate and of its parent leave it
   pub mate_of : (e : ℕ) → s.mate a ≡ Some e → IsMate s a e says.child
@@ -70,10 +70,10 @@ module _ {s : State} {depth : ℕ → ℕ} {a : ℕ} (h : CanOpen s depth a) whe
   parent_leaves e has = leaves e says.up (hangs_by e has).joins
 
   pub base_found : (e : ℕ) → s.mate a ≡ Some e → in_ring ring (child_at s.graph bs a e) ≡ true
-  base_found e has = child_in s.graph bs a e h.graph h.nested h.can.blossom (mate_of e has).edge (mate_leaves e has)
+  base_found e has = child_in s.graph bs a e h.graph h.nested h.possible.blossom (mate_of e has).edge (mate_leaves e has)
 
   pub entry_found : (e : ℕ) → s.parent a ≡ Some e → in_ring ring (child_at s.graph bs a e) ≡ true
-  entry_found e has = child_in s.graph bs a e h.graph h.nested h.can.blossom (hangs_by e has).is_edge (parent_leaves e has)
+  entry_found e has = child_in s.graph bs a e h.graph h.nested h.possible.blossom (hangs_by e has).is_edge (parent_leaves e has)
 
   -- a node of the circuit has a place in the lists
   pub ring_limit : (c : ℕ) → in_ring ring c ≡ true → c ≤ node_limit n
@@ -103,21 +103,21 @@ module _ {s : State} {depth : ℕ → ℕ} {a : ℕ} (h : CanOpen s depth a) whe
   pub opened_end : (v : ℕ) → is_vertex n v ≡ true → outermost bs v ≡ a → in_ring ring (outermost (without bs a) v) ≡ true
   opened_end v iv at =
       let apart : v ≢ a = λ q. absurd (omega (arith, q, (vertex_range n v iv).1, above)) in
-      ap (in_ring ring) (outermost_opened bs a v at apart) ∙ holder n bs a h.nested h.can.blossom v iv (end_member n bs a v h.nested iv at)
+      ap (in_ring ring) (outermost_opened bs a v at apart) ∙ holder n bs a h.nested h.possible.blossom v iv (end_member n bs a v h.nested iv at)
 
   -- no slack changes, and no dual sum of a vertex
   pub slack_open : (f : ℕ) → slack_of (record s { blossoms = without bs a }) f ≡ slack_of s f
-  slack_open f = ap (λ z. doubled s.graph s.weighted f -ℤ z) (across_without s.dual bs a (edge_of s.graph f) h.can.empty)
+  slack_open f = ap (λ z. doubled s.graph s.weighted f -ℤ z) (across_without s.dual bs a (edge_of s.graph f) h.possible.empty)
 
   pub sum_open : (v : ℕ) → dual_sum (record s { blossoms = without bs a }) v ≡ dual_sum s v
-  sum_open v = ap (λ z. s.dual v +ℤ z) (held_without s.dual bs a v h.can.empty)
+  sum_open v = ap (λ z. s.dual v +ℤ z) (held_without s.dual bs a v h.possible.empty)
 
 -- the state once it is open, with these labels, parents and mates
 abbrev pub opened_with : State → ℕ → (ℕ → Label) → (ℕ → Option ℕ) → (ℕ → Option ℕ) → State
 opened_with s a l p m = record s { blossoms = without s.blossoms a; label = l; parent = p; mate = m }
 
 pub record IsOpen (s : State) (depth : ℕ → ℕ) (a : ℕ) (l : ℕ → Label) (p m : ℕ → Option ℕ) : Type 0 where
-  pub can : CanOpen s depth a
+  pub possible : CanOpen s depth a
   pub is : IsExpanded s (opened_with s a l p m) a
 
 -- what is expanded is such a state
@@ -125,11 +125,11 @@ pub same_open : (s t : State) (a : ℕ) → IsExpanded s t a → t ≡ opened_wi
 same_open s t a x = λ i. record { graph = x.graph i; weighted = x.weighted i; blossoms = x.blossoms i; dual = x.dual i; label = t.label; parent = t.parent; mate = t.mate }
 
 pub is_open : (s t : State) (depth : ℕ → ℕ) (a : ℕ) → CanOpen s depth a → IsExpanded s t a → IsOpen s depth a t.label t.parent t.mate
-is_open s t depth a can x = record { can = can; is = subst (λ (y : State). IsExpanded s y a) (same_open s t a x) x }
+is_open s t depth a can x = record { possible = can; is = subst (λ (y : State). IsExpanded s y a) (same_open s t a x) x }
 
 module _ {s : State} {depth : ℕ → ℕ} {node : ℕ} {l : ℕ → Label} {p m : ℕ → Option ℕ} (o : IsOpen s depth node l p m) where
   abbrev h : CanOpen s depth node
-  h = o.can
+  h = o.possible
 
   abbrev t : State
   t = opened_with s node l p m
@@ -160,7 +160,7 @@ module _ {s : State} {depth : ℕ → ℕ} {node : ℕ} {l : ℕ → Label} {p m
       → outermost t.blossoms v ≢ outermost t.blossoms u
   open_apart v u v_is u_is outer apart at =
       let c : ℕ = outermost (bs h) v in
-      let ne : c ≢ node = λ q. outer_not_inner (sym outer ∙ ap s.label q ∙ h.can.inner) in
+      let ne : c ≢ node = λ q. outer_not_inner (sym outer ∙ ap s.label q ∙ h.possible.inner) in
       let has : holds (members_of t.blossoms (outermost t.blossoms u)) u ≡ true = (outermost_has (n h) t.blossoms u (nested_without (n h) (bs h) node h.nested (free h)) u_is).1 in
       let here : outermost t.blossoms u ≡ c = sym at ∙ outermost_elsewhere (bs h) node v ne in
       apart (sym (outermost_by_member (n h) (bs h) c u h.nested (at_outer v v_is)
@@ -182,16 +182,16 @@ module _ {s : State} {depth : ℕ → ℕ} {node : ℕ} {l : ℕ → Label} {p m
 
   -- a vertex in an outer node is in another node than the blossom
   open_inside : KeepsOuter (n h) s t
-  open_inside v is lab = label_stays v is (λ e. outer_not_inner (sym lab ∙ ap s.label e ∙ h.can.inner)) ∙ lab
+  open_inside v is lab = label_stays v is (λ e. outer_not_inner (sym lab ∙ ap s.label e ∙ h.possible.inner)) ∙ lab
 
   open_blossoms : outside_among t t.blossoms < outside_among s s.blossoms
   open_blossoms =
-      let v = has_vertex (n h) (bs h) node h.nested h.can.outermost in
-      among_without (n h) s t (bs h) node h.nested open_inside h.can.blossom
-      (any_here (is_outside s) (members_of (bs h) node) v.vertex v.member (outside_yes s v.vertex (λ q. outer_not_inner (sym q ∙ ap s.label v.node ∙ h.can.inner))))
+      let v = has_vertex (n h) (bs h) node h.nested h.possible.outermost in
+      among_without (n h) s t (bs h) node h.nested open_inside h.possible.blossom
+      (any_here (is_outside s) (members_of (bs h) node) v.vertex v.member (outside_yes s v.vertex (λ q. outer_not_inner (sym q ∙ ap s.label v.node ∙ h.possible.inner))))
 
   node_is : is_node (n h) (bs h) node ≡ true
-  node_is = (outermost_parts (n h) (bs h) node h.can.outermost).0
+  node_is = (outermost_parts (n h) (bs h) node h.possible.outermost).0
 
   member_is : (v : ℕ) → holds (members_of (bs h) node) v ≡ true → is_vertex (n h) v ≡ true
   member_is v i = member_vertex (n h) (bs h) node v h.nested node_is i
@@ -215,7 +215,7 @@ module _ {s : State} {depth : ℕ → ℕ} {node : ℕ} {l : ℕ → Label} {p m
       let same = sum_to-same (λ i. looks i + (outside t i + out s i)) (λ i. outside s i + out t i) (n h) (λ k b.
       let v_is = range_vertex (n h) (k + 1) (omega arith) (omega (arith, b)) in
       looked_term (s.label (outermost (bs h) (k + 1))) (l (outermost t.blossoms (k + 1))) (holds (members_of (bs h) node) (k + 1)) (around (k + 1))
-      (λ i. ap s.label (outermost_by_member (n h) (bs h) node (k + 1) h.nested h.can.outermost i) ∙ h.can.inner)
+      (λ i. ap s.label (outermost_by_member (n h) (bs h) node (k + 1) h.nested h.possible.outermost i) ∙ h.possible.inner)
       (λ i. label_stays (k + 1) v_is (elsewhere (k + 1) v_is i))) in
       omega (arith, all, same, sum_to-add (outside t) (out s) (n h), sum_to-add looks (λ i. outside t i + out s i) (n h), sum_to-add (outside s) (out t) (n h))
 
@@ -236,13 +236,13 @@ module _ {s : State} {depth : ℕ → ℕ} {node : ℕ} {l : ℕ → Label} {p m
   pub opening : IsOpening s t node (members_of (bs h) node)
   opening = record {
     trees = counted_opened (λ a. is_label (s.label a) Outer && not (is_some (s.mate a))) (λ a. is_label (l a) Outer && not (is_some (m a)))
-        (ap (λ x. is_label x Outer && not (is_some (s.mate node))) h.can.inner)
+        (ap (λ x. is_label x Outer && not (is_some (s.mate node))) h.possible.inner)
         (λ a r. and_right (is_label (l a) Outer) (not (is_some (m a))) (ap (λ q. not (is_some q)) (o.is.mated a r).1))
         (λ a r. ap (λ x. is_label x Outer && not (is_some (m a))) (o.is.labels a r) ∙ ap (λ q. is_label (s.label a) Outer && not (is_some q)) (o.is.mates a r));
     exposed = counted_opened (λ a. not (is_some (s.mate a))) (λ a. not (is_some (m a)))
         (ap (λ q. not (is_some q)) (says h).mate) (λ a r. ap (λ q. not (is_some q)) (o.is.mated a r).1) (λ a r. ap (λ q. not (is_some q)) (o.is.mates a r));
     -- an exposed node was so
-    planted = λ planted a exposed out. by_test (in_ring (ring h) a)
+    all_rooted = λ planted a exposed out. by_test (in_ring (ring h) a)
         (λ r. let has = o.is.mated a r in some_not_none has.0 (sym has.1 ∙ exposed.1))
         (λ r. planted a (outer_before h a exposed.0 r, sym (o.is.mates a r) ∙ exposed.1) (sym (o.is.labels a r) ∙ out));
     falls = omega (arith, vertices_le (n h) s t open_inside, open_blossoms);
@@ -251,7 +251,7 @@ module _ {s : State} {depth : ℕ → ℕ} {node : ℕ} {l : ℕ → Label} {p m
     blossoms = open_blossoms;
     vertices = all_holds (λ v. is_vertex (n h) v ≡ true) (members_of (bs h) node) member_is;
     ends = open_ends;
-    around = open_around;
+    edge_ends = open_around;
     leaves = open_leaves;
     -- the mate of the blossom stays outer
     tree = λ none.
@@ -284,11 +284,11 @@ module _ {s : State} {depth : ℕ → ℕ} {node : ℕ} {l : ℕ → Label} {p m
 
   -- what a node in a tree was before was in a tree
   pub from_is : (a : ℕ) → IsOutermost t a → IsOutermost s (from a)
-  from_is a is = by_test (in_ring (ring h) a) (λ r. subst (IsOutermost s) (sym (from_on a r)) h.can.outermost) (λ r. subst (IsOutermost s) (sym (from_off a r)) (outer_before h a is r))
+  from_is a is = by_test (in_ring (ring h) a) (λ r. subst (IsOutermost s) (sym (from_on a r)) h.possible.outermost) (λ r. subst (IsOutermost s) (sym (from_off a r)) (outer_before h a is r))
 
   pub from_in : (a : ℕ) → l a ≢ Out → s.label (from a) ≢ Out
   from_in a in_it out = by_test (in_ring (ring h) a)
-      (λ r. inner_not_out (sym h.can.inner ∙ ap s.label (sym (from_on a r)) ∙ out)) (λ r. absurd (in_it (o.is.labels a r ∙ ap s.label (sym (from_off a r)) ∙ out)))
+      (λ r. inner_not_out (sym h.possible.inner ∙ ap s.label (sym (from_on a r)) ∙ out)) (λ r. absurd (in_it (o.is.labels a r ∙ ap s.label (sym (from_off a r)) ∙ out)))
 
   module _ (after : ℕ → ℕ) (now : IsSearchState t after)
       (ways : (c f d : ℕ) → in_ring (ring h) c ≡ true → up_edge t c ≡ Some f → IsEdgeNumber s.graph f → Joins s.graph t.blossoms f c d
@@ -309,7 +309,7 @@ module _ {s : State} {depth : ℕ → ℕ} {node : ℕ} {l : ℕ → Label} {p m
       step = λ a f d is in_it d_is d_in way number joins ne. by_test (in_ring (ring h) a)
           (λ r. ⊎_elim
           (λ on. ap (root_of s) (from_on a r ∙ sym (from_on d on)))
-          (λ hung. step_from a f d is in_it number joins (ap (up_edge s) (from_on a r) ∙ ap (λ x. up_edge_by s x node) h.can.inner ∙ hung))
+          (λ hung. step_from a f d is in_it number joins (ap (up_edge s) (from_on a r) ∙ ap (λ x. up_edge_by s x node) h.possible.inner ∙ hung))
           (ways a f d r way number joins))
           (λ r. step_from a f d is in_it number joins (ap (up_edge s) (from_off a r) ∙ sym (up_edge_same s t a (o.is.labels a r) (o.is.mates a r) (o.is.parents a r)) ∙ way));
     }
@@ -321,6 +321,6 @@ module _ {s : State} {depth : ℕ → ℕ} {node : ℕ} {l : ℕ → Label} {p m
   pub open_roots_kept : AreRootsKept s t (λ r. r)
   open_roots_kept = record {
     graph = refl;
-    vertex = λ v is root. outermost_elsewhere (bs h) node v (λ q. outer_not_inner (sym root.outer ∙ ap s.label q ∙ h.can.inner));
+    vertex = λ v is root. outermost_elsewhere (bs h) node v (λ q. outer_not_inner (sym root.outer ∙ ap s.label q ∙ h.possible.inner));
     apart = λ r q r_is q_is same. same;
   }

@@ -32,7 +32,7 @@ pub record Expands (s t : State) (a : ℕ) : Type 0 where
 
 -- the base of its circuit, and the links from behind that one round to it
 pub record Opens (s : State) (depth : ℕ → ℕ) (a mate base edge : ℕ) (round : List Link) : Type 0 where
-  pub can : CanOpen s depth a
+  pub possible : CanOpen s depth a
   pub mate_is : s.mate a ≡ Some mate
   pub base_is : base ≡ child_at s.graph s.blossoms a mate
   pub round_is : IsRound (ring_of s.blossoms a) base edge round
@@ -54,11 +54,11 @@ module _ {s : State} {depth : ℕ → ℕ} {a mate base edge : ℕ} {round : Lis
   t = opened s a base round mate
 
   abbrev h : CanOpen s depth a
-  h = k.can
+  h = k.possible
 
   pub goes : GoesRound ring base round
   goes =
-      let here = has_ring s.graph.vertices bs a h.nested h.can.blossom in
+      let here = has_ring s.graph.vertices bs a h.nested h.possible.blossom in
       goes_round ring base edge round k.round_is (new_from_distinct (nodes_of ring) here.circuit.different)
 
   -- behind it the base's link has the whole circuit
@@ -75,7 +75,7 @@ module _ {s : State} {depth : ℕ → ℕ} {a mate base edge : ℕ} {round : Lis
       (goes.all c r))
 
   pub round_even : length round % 2 ≡ 0
-  round_even = let here = has_ring s.graph.vertices bs a h.nested h.can.blossom in omega (arith, goes.size, here.circuit.odd)
+  round_even = let here = has_ring s.graph.vertices bs a h.nested h.possible.blossom in omega (arith, goes.size, here.circuit.odd)
 
   pub round_low : AllByRecursion (λ (l : Link). l.node ≤ node_limit s.graph.vertices) round
   round_low = each_link (λ c. c ≤ node_limit s.graph.vertices) round (λ c i. ring_limit h c (goes.inside c i))
@@ -185,7 +185,7 @@ module _ {s : State} {depth : ℕ → ℕ} {a mate base edge : ℕ} {round : Lis
   lift_rank = lifted (λ c x. ranks x ≡ depth c * times) rank_base (λ c ne is. rank_old c is)
 
   lift_label : (c : ℕ) → IsOutermost s c → t.label (lift c) ≡ s.label c
-  lift_label = lifted (λ c x. t.label x ≡ s.label c) (base_inner ∙ sym h.can.inner) (λ c ne is. label_kept c (off h c is))
+  lift_label = lifted (λ c x. t.label x ≡ s.label c) (base_inner ∙ sym h.possible.inner) (λ c ne is. label_kept c (off h c is))
 
   abbrev w : ℕ
   w = (says h).child
@@ -204,7 +204,7 @@ module _ {s : State} {depth : ℕ → ℕ} {a mate base edge : ℕ} {round : Lis
   mate_after c f d is nc has v = lifted (λ d x. IsMate s c f d → IsMate t c f x)
       (λ v.
       let it : mate ≡ f = same_Some mate f (sym k.mate_is ∙ v.back) in
-      let from : w ≡ c = partner_unique s w mate c f a (mate_turned s a mate w h.can.outermost k.mate_is is_mate) v in
+      let from : w ≡ c = partner_unique s w mate c f a (mate_turned s a mate w h.possible.outermost k.mate_is is_mate) v in
       subst (λ g. IsMate t c g base) it (subst (λ x. IsMate t x mate base) from (mate_turned t base mate w (child_outermost h base base_in) base_mate_is base_mate)))
       (λ d other d_is v. record {
         edge = v.edge;
@@ -231,7 +231,7 @@ module _ {s : State} {depth : ℕ → ℕ} {a mate base edge : ℕ} {round : Lis
       rises = λ low. omega (arith, lift_rank d v.outermost, rank_old c is, room_between (depth c) (depth d) times low);
     };
     hangs = λ f d lab u.
-        let other : d ≢ a = λ q. outer_not_inner (sym u.outer ∙ ap s.label q ∙ h.can.inner) in
+        let other : d ≢ a = λ q. outer_not_inner (sym u.outer ∙ ap s.label q ∙ h.possible.inner) in
         subst (Hangs (rehung t t.label p) ranks c f) (sym (lift_other d other)) (record {
           is_edge = u.is_edge;
           joins = joins_elsewhere s.graph bs a f c d nc other u.joins;
@@ -339,7 +339,7 @@ module _ {s : State} {depth : ℕ → ℕ} {a mate base edge : ℕ} {round : Lis
         let up : ℕ = (says h).up in let hangs = hangs_by h parent parent_is in
         climb t p z ls t.label ranks base first parent up (opened_at p parent_kept) v.ladder along v.first_tight v.first_joins
         (λ c i. round_out c (v.inside c i)) v.different (tight_now parent (record { edge = hangs.is_edge; tight = hangs.tight })) v.end_joins
-        (stays_outer h up hangs.up_is (λ q. outer_not_inner (sym hangs.outer ∙ ap s.label q ∙ h.can.inner))) (label_kept up (off h up hangs.up_is) ∙ hangs.outer)
+        (stays_outer h up hangs.up_is (λ q. outer_not_inner (sym hangs.outer ∙ ap s.label q ∙ h.possible.inner))) (label_kept up (off h up hangs.up_is) ∙ hangs.outer)
         (omega (arith, v.short, rank_old up hangs.up_is, rank_base, room_between (depth up) (depth a) times hangs.falls))
 
     -- the edge up from a node of the circuit stays on it, or is the one by which the blossom hung
@@ -379,7 +379,7 @@ module _ {s : State} {depth : ℕ → ℕ} {a mate base edge : ℕ} {round : Lis
           mated = child_mated;
           outer = λ c is lab. label_kept_on c (off h c is) ∙ lab;
         } in
-        let o : IsOpen s depth a l p t.mate = record { can = h; is = is } in
+        let o : IsOpen s depth a l p t.mate = record { possible = h; is = is } in
         record { after = climbed.0; state = state; is = is; roots = roots_opened o climbed.0 state leads_out }
 
   module _ (parent entry place : ℕ) (parent_is : s.parent a ≡ Some parent) (entry_is : entry ≡ child_at s.graph bs a parent) (place_is : place ≡ length
@@ -387,7 +387,7 @@ module _ {s : State} {depth : ℕ → ℕ} {a mate base edge : ℕ} {round : Lis
     entry_joins : Joins s.graph (without bs a) parent entry (says h).up
     entry_joins =
         let hangs = hangs_by h parent parent_is in
-        let apart : a ≢ (says h).up = λ e. outer_not_inner (sym hangs.outer ∙ ap s.label (sym e) ∙ h.can.inner) in
+        let apart : a ≢ (says h).up = λ e. outer_not_inner (sym hangs.outer ∙ ap s.label (sym e) ∙ h.possible.inner) in
         subst (λ x. Joins s.graph (without bs a) parent x (says h).up) (sym entry_is) (joins_child s.graph bs a parent (says h).up h.graph (above h) hangs.is_edge apart hangs.joins)
 
     -- behind all links where the entry is the base

@@ -8,7 +8,7 @@ use Rattle.alt_forest.proofs.Common.{root_of, outside_ends_fall, joins_turned, p
 use Rattle.alt_forest.proofs.Common.{up_or_root, tight_rings, all_holds}
 use Rattle.std.specs.Option.{is_some}
 use Rattle.alt_forest.specs.declared.search.Search.{Search}
-use Rattle.edge_queue.specs.declared.item.Item.TheVariants.{Blossom as OfBlossom}
+use Rattle.search_heap.specs.declared.item.Item.TheVariants.{Blossom as OfBlossom}
 use Rattle.tree_steps.specs.Grown.{grown}
 use Rattle.tree_steps.proofs.Counted.{counted_same, has_vertex, outside_no, outside_yes, outside_before, KeepsOuter, vertices_less, among_le}
 use Rattle.tree_steps.proofs.Carried.{Hangs, inner_fits, rehung, mate_rehung}
@@ -221,7 +221,7 @@ module _ {s : State} {depth : ℕ → ℕ} {e mate : ℕ} {can : CanGrow s e} (h
   grow_step u vs state scanned = subst (IsStep s u) (sym scanned) (subst (λ (y : State). IsStep s y (members_of s.blossoms mate)) (sym state) (record {
     trees = grow_trees;
     exposed = refl;
-    planted = grow_planted;
+    all_rooted = grow_planted;
     falls = grow_falls;
     inside = λ v is out. outside_before n s t v grow_inside is out;
     blossoms = grow_blossoms;

@@ -3,11 +3,11 @@ use Rattle.alt_forest.proofs.Common.{◌-ℤ◌, ap₂, ◌≡◌, ◌∙◌, �
 use Rattle.alt_forest.proofs.Common.{holds, NUMBER_LIMIT, is_vertex, names_of, u_vertex, v_vertex, Moments, entry, moment_of, NeedsMoment, IsBlossomEntered, IsQueued, IsQueuedBut, HasNoTree}
 use Rattle.alt_forest.proofs.Common.{touches_any, IsSound, state_of}
 use Rattle.alt_forest.specs.declared.search.Search.{Search}
-use Rattle.edge_queue.specs.declared.item.Item.TheVariants.{Edge as OfEdge}
-use Rattle.event_bounds.specs.declared.bounds.EventBounds.{EventBounds}
-use Rattle.event_bounds.specs.Bounds.{HasPlaces, IsBounding, IsBoundingBut, bound_of}
-use Rattle.event_bounds.proofs.Kept.{bounding_kept}
-use Rattle.event_bounds.proofs.Near.{near_same}
+use Rattle.search_heap.specs.declared.item.Item.TheVariants.{Edge as OfEdge}
+use Rattle.search_keys.specs.declared.bounds.EventBounds.{EventBounds}
+use Rattle.search_keys.specs.Bounds.{HasPlaces, IsBounding, IsBoundingBut, bound_of}
+use Rattle.search_keys.proofs.Kept.{bounding_kept}
+use Rattle.search_keys.proofs.Near.{near_same}
 use Rattle.tree_steps.specs.Left.{Leaves}
 use Rattle.tree_steps.proofs.Needs.{Stays, needs_still}
 

@@ -67,15 +67,15 @@ pub record Closing (s : State) (depth : ℕ → ℕ) (ring : List Link) (node ba
   pub graph : IsGraph s.graph
   pub nested : IsNested s.graph.vertices (made_of s.blossoms ring node ∷ s.blossoms)
   pub state : IsSearchState s depth
-  pub can : IsShrinkable s depth ring base
+  pub possible : IsShrinkable s depth ring base
 
 pub closing_of : (s : State) (ring : List Link) (node base : ℕ) → IsGraph s.graph → IsNested s.graph.vertices (made_of s.blossoms ring node ∷ s.blossoms)
     → (c : CanClose s ring base) → Closing s c.depth ring node base
-closing_of s ring node base graph nested c = record { graph = graph; nested = nested; state = c.state; can = c.shrinkable }
+closing_of s ring node base graph nested c = record { graph = graph; nested = nested; state = c.state; possible = c.shrinkable }
 
-pub closing : (f k : Search) (node : ℕ) → IsSound f → IsSound k → (x : IsShrunk (state_of f) (state_of k) node) → Closing (state_of f) x.can.depth x.ring node x.base
+pub closing : (f k : Search) (node : ℕ) → IsSound f → IsSound k → (x : IsShrunk (state_of f) (state_of k) node) → Closing (state_of f) x.possible.depth x.ring node x.base
 closing f k node f_is k_is x =
-    closing_of (state_of f) x.ring node x.base f_is.shape.graph.graph (subst (λ (y : State). IsNested y.graph.vertices y.blossoms) x.state (nested_of k k_is.shape)) x.can
+    closing_of (state_of f) x.ring node x.base f_is.shape.graph.graph (subst (λ (y : State). IsNested y.graph.vertices y.blossoms) x.state (nested_of k k_is.shape)) x.possible
 
 module _ {s : State} {depth : ℕ → ℕ} {ring : List Link} {node base : ℕ} (h : Closing s depth ring node base) where
   abbrev n : ℕ
@@ -101,7 +101,7 @@ module _ {s : State} {depth : ℕ → ℕ} {ring : List Link} {node base : ℕ} 
   lift_out a e = ap (λ q. cond q node a) e
 
   pub base_is : IsOutermost s base
-  base_is = circuit_outer n bs ring base h.can.circuit h.can.base_in
+  base_is = circuit_outer n bs ring base h.possible.circuit h.possible.base_in
 
   node_differs : (a : ℕ) → is_node n bs a ≡ true → a ≢ node
   node_differs a is = not_new n bs node a h.nested.0.fresh is
@@ -189,9 +189,9 @@ module _ {s : State} {depth : ℕ → ℕ} {ring : List Link} {node base : ℕ} 
 
   at_base : Stays base
   at_base = (
-    ap t.mate (lift_in base h.can.base_in) ∙ mate_here,
-    ap t.label (lift_in base h.can.base_in) ∙ label_here ∙ sym h.can.base_outer,
-    ap deeper (lift_in base h.can.base_in) ∙ put_here depth node (depth base),
+    ap t.mate (lift_in base h.possible.base_in) ∙ mate_here,
+    ap t.label (lift_in base h.possible.base_in) ∙ label_here ∙ sym h.possible.base_outer,
+    ap deeper (lift_in base h.possible.base_in) ∙ put_here depth node (depth base),
   )
 
   off_ring : (d : ℕ) → IsOutermost s d → in_ring ring d ≡ false → Stays d
@@ -203,7 +203,7 @@ module _ {s : State} {depth : ℕ → ℕ} {ring : List Link} {node base : ℕ} 
   mate_stays c f d is out has w = by_test (in_ring ring d)
       (λ r. ⊎_elim
       (λ same. subst Stays (sym same) at_base)
-      (λ other. absurd (both_ways (in_ring ring c) out (h.can.mated_inside d f c r other w.back (mate_turned s c f d is has w))))
+      (λ other. absurd (both_ways (in_ring ring c) out (h.possible.mated_inside d f c r other w.back (mate_turned s c f d is has w))))
       (cases_eq d base))
       (λ r. off_ring d w.outermost r)
 
@@ -243,7 +243,7 @@ module _ {s : State} {depth : ℕ → ℕ} {ring : List Link} {node base : ℕ} 
           up_is = outer_after d x.up_is;
           outer = label_lift d x.up_is x.outer;
           falls = by_test (in_ring ring d)
-              (λ r. omega (arith, ap deeper (lift_in d r ∙ sym (lift_in base h.can.base_in)), at_base.2, h.can.base_least d r, deeper_old c ne, x.falls))
+              (λ r. omega (arith, ap deeper (lift_in d r ∙ sym (lift_in base h.possible.base_in)), at_base.2, h.possible.base_least d r, deeper_old c ne, x.falls))
               (λ r. omega (arith, (off_ring d x.up_is r).2, deeper_old c ne, x.falls));
         };
       }
@@ -251,16 +251,16 @@ module _ {s : State} {depth : ℕ → ℕ} {ring : List Link} {node base : ℕ} 
   -- the mate of the base becomes the new node's
   base_mate : (e c : ℕ) → s.mate base ≡ Some e → IsMate s base e c → IsMate t node e (lift c) × Stays c
   base_mate e c has w =
-      let out : in_ring ring c ≡ false = h.can.base_mated_outside e c has w in
+      let out : in_ring ring c ≡ false = h.possible.base_mated_outside e c has w in
       let stays = off_ring c w.outermost out in
-      (mate_lift node base e c (lift_in base h.can.base_in) (λ q. outer_differs c w.outermost (sym (q ∙ lift_out c out))) w stays, stays)
+      (mate_lift node base e c (lift_in base h.possible.base_in) (λ q. outer_differs c w.outermost (sym (q ∙ lift_out c out))) w stays, stays)
 
   new_label : FitsLabel t deeper node
   new_label = record {
     outer = λ lab e c has_mate w.
         let has : s.mate base ≡ Some e = sym mate_here ∙ has_mate in
         let was = h.state.mates base e base_is has in let now = base_mate e was.0 has was.1 in
-        let says = (h.state.labels base base_is).outer h.can.base_outer e was.0 has was.1 in
+        let says = (h.state.labels base base_is).outer h.possible.base_outer e was.0 has was.1 in
         subst (λ x. (t.label x ≡ Inner) × (deeper x < deeper node)) (joins_unique s.graph (b ∷ bs) e node (lift was.0) c now.0.joins w.joins now.0.different)
         (now.1.1 ∙ says.0, omega (arith, now.1.2, put_here depth node (depth base), says.1));
     inner = λ lab. outer_not_inner (sym label_here ∙ lab);
@@ -271,7 +271,7 @@ module _ {s : State} {depth : ℕ → ℕ} {ring : List Link} {node base : ℕ} 
   one_parity : (u v : ℕ) → is_vertex n u ≡ true → is_vertex n v ≡ true → outermost (b ∷ bs) u ≡ outermost (b ∷ bs) v → Agree s u v
   one_parity = one_class s.graph (Agree s) (λ u. parity_refl (dual_sum s u)) (λ u v. parity_sym (dual_sum s u) (dual_sum s v))
       (λ u v w. parity_trans (dual_sum s u) (dual_sum s v) (dual_sum s w)) h.graph
-      (b ∷ bs) h.nested (h.can.ring, h.state.rings) (ring_agrees s ring h.can.tight, rings_agree s bs h.state.tight_rings)
+      (b ∷ bs) h.nested (h.possible.ring, h.state.rings) (ring_agrees s ring h.possible.tight, rings_agree s bs h.state.tight_rings)
 
   -- an exposed node was so, or is the new one, and then its base was
   was_exposed : (v : ℕ) → is_vertex n v ≡ true → t.mate (outermost (b ∷ bs) v) ≡ None → WasExposed s v
@@ -281,7 +281,7 @@ module _ {s : State} {depth : ℕ → ℕ} {ring : List Link} {node base : ℕ} 
       (λ r.
       let x = has_vertex n bs base h.nested.1 base_is in
       let at : outermost (b ∷ bs) v ≡ node = outermost_lift v iv ∙ lift_in o r in
-      let base_at : outermost (b ∷ bs) x.vertex ≡ node = outermost_lift x.vertex x.is ∙ ap lift x.node ∙ lift_in base h.can.base_in in
+      let base_at : outermost (b ∷ bs) x.vertex ≡ node = outermost_lift x.vertex x.is ∙ ap lift x.node ∙ lift_in base h.possible.base_in in
       record { at = x.vertex; vertex = x.is; exposed = ap s.mate x.node ∙ sym mate_here ∙ ap t.mate (sym at) ∙ none; agree = one_parity v x.vertex iv x.is (at ∙ sym base_at) })
       (λ r. record {
         at = v;
@@ -292,8 +292,8 @@ module _ {s : State} {depth : ℕ → ℕ} {ring : List Link} {node base : ℕ} 
 
   pub shrink_keeps : IsSearchState t deeper
   shrink_keeps = record {
-    rings = (h.can.ring, h.state.rings);
-    tight_rings = (tight_ring s t still_tight ring h.can.tight, tight_rings s t still_tight bs h.state.tight_rings);
+    rings = (h.possible.ring, h.state.rings);
+    tight_rings = (tight_ring s t still_tight ring h.possible.tight, tight_rings s t still_tight bs h.state.tight_rings);
     slacks = λ e is. subst (λ z. pos 0 ≤ℤ z) (sym (slack_after e is)) (h.state.slacks e is);
     duals = (subst (λ z. pos 0 ≤ℤ z) (sym (put_here s.dual node (pos 0))) (omega (arith, ints)), low_at bs s.dual node (pos 0) new_name h.state.duals);
     mates = λ a e is has_mate. ⊎_elim
@@ -338,7 +338,7 @@ module _ {s : State} {depth : ℕ → ℕ} {ring : List Link} {node base : ℕ} 
       counted_moved (λ a. is_outermost n bs a && p a) (λ a. is_outermost n (b ∷ bs) a && q a) base node (node_limit n)
       range.0 range.1 (omega (arith, h.nested.0.after_vertices)) h.nested.0.within_room (outer_differs base base_is)
       (and_left (is_outermost n bs node) (p node) (and_left (is_node n bs node) (not (is_child bs node)) h.nested.0.fresh))
-      (and_left (is_outermost n (b ∷ bs) base) (q base) (child_now base h.can.base_in))
+      (and_left (is_outermost n (b ∷ bs) base) (q base) (child_now base h.possible.base_in))
       (ap (λ u. u && q node) new_outer ∙ same ∙ sym (ap (λ u. u && p base) base_is))
       (λ a off_base off_node. by_test (in_ring ring a)
       (λ r. and_left (is_outermost n (b ∷ bs) a) (q a) (child_now a r) ∙ sym (and_right (is_outermost n bs a) (p a) (inside a r off_base)))
@@ -346,13 +346,13 @@ module _ {s : State} {depth : ℕ → ℕ} {ring : List Link} {node base : ℕ} 
 
   shrink_exposed : exposed_count t ≡ exposed_count s
   shrink_exposed = counted_shrunk (λ a. not (is_some (s.mate a))) (λ a. not (is_some (t.mate a)))
-      (ap (λ o. not (is_some o)) mate_here) (λ a ne. ap (λ o. not (is_some o)) (mate_else a ne)) (λ a r ne. ap (λ o. not (is_some o)) (h.can.mated a r ne).1)
+      (ap (λ o. not (is_some o)) mate_here) (λ a ne. ap (λ o. not (is_some o)) (mate_else a ne)) (λ a r ne. ap (λ o. not (is_some o)) (h.possible.mated a r ne).1)
 
   shrink_trees : tree_count t ≡ tree_count s
   shrink_trees = counted_shrunk (λ a. is_label (s.label a) Outer && not (is_some (s.mate a))) (λ a. is_label (t.label a) Outer && not (is_some (t.mate a)))
-      (ap (λ l. is_label l Outer && not (is_some (t.mate node))) (label_here ∙ sym h.can.base_outer) ∙ ap (λ o. is_label (s.label base) Outer && not (is_some o)) mate_here)
+      (ap (λ l. is_label l Outer && not (is_some (t.mate node))) (label_here ∙ sym h.possible.base_outer) ∙ ap (λ o. is_label (s.label base) Outer && not (is_some o)) mate_here)
       (λ a ne. ap (λ l. is_label l Outer && not (is_some (t.mate a))) (label_else a ne) ∙ ap (λ o. is_label (s.label a) Outer && not (is_some o)) (mate_else a ne))
-      (λ a r ne. and_right (is_label (s.label a) Outer) (not (is_some (s.mate a))) (ap (λ o. not (is_some o)) (h.can.mated a r ne).1))
+      (λ a r ne. and_right (is_label (s.label a) Outer) (not (is_some (s.mate a))) (ap (λ o. not (is_some o)) (h.possible.mated a r ne).1))
 
   -- a vertex of the new node, and any other
   here : (v : ℕ) → holds b.members v ≡ true → t.label (outermost (b ∷ bs) v) ≡ Outer
@@ -371,30 +371,30 @@ module _ {s : State} {depth : ℕ → ℕ} {ring : List Link} {node base : ℕ} 
   holder : (v : ℕ) → holds (newly_outer s ring) v ≡ true → (a : ℕ) × (outermost bs v ≡ a) × (in_ring ring a ≡ true) × (is_label (s.label a) Outer ≡ false)
   holder v m =
       let r = of_newly s ring v m in
-      (r.node, outermost_by_member n bs r.node v h.nested.1 (circuit_outer n bs ring r.node h.can.circuit r.within) r.has, r.within, r.low)
+      (r.node, outermost_by_member n bs r.node v h.nested.1 (circuit_outer n bs ring r.node h.possible.circuit r.within) r.has, r.within, r.low)
 
   shrink_ends : outside_ends t + ends_around s.graph (newly_outer s ring) ≤ outside_ends s
-  shrink_ends = outside_ends_fall s t (newly_outer s ring) refl (newly_new s ring h.nested.1 h.can.circuit) (newly_vertex s ring h.nested.1 h.can.circuit)
+  shrink_ends = outside_ends_fall s t (newly_outer s ring) refl (newly_new s ring h.nested.1 h.possible.circuit) (newly_vertex s ring h.nested.1 h.possible.circuit)
       (λ v m. let r = holder v m in ap (λ a. not (is_label (s.label a) Outer)) r.1 ∙ ap not r.3)
-      (λ v m. let r = holder v m in outside_no t v (here v (ring_member v r.0 (newly_vertex s ring h.nested.1 h.can.circuit v m) r.1 r.2)))
+      (λ v m. let r = holder v m in outside_no t v (here v (ring_member v r.0 (newly_vertex s ring h.nested.1 h.possible.circuit v m) r.1 r.2)))
       (λ a v e. outside_before n s t a shrink_inside v e)
 
   -- of a node and its mate on the circuit one is not outer
   low_node : (a : ℕ) × (in_ring ring a ≡ true) × (s.label a ≢ Outer)
   low_node =
-      let x = other_node ring base (new_from_distinct (nodes_of ring) h.can.circuit.different) (omega (arith, h.can.circuit.at_least_three)) in
+      let x = other_node ring base (new_from_distinct (nodes_of ring) h.possible.circuit.different) (omega (arith, h.possible.circuit.at_least_three)) in
       by_test (is_label (s.label x.0) Outer)
       (λ l.
-      let x_is : IsOutermost s x.0 = circuit_outer n bs ring x.0 h.can.circuit x.1 in
-      let f = h.can.mated x.0 x.1 x.2 in let w = h.state.mates x.0 f.0 x_is f.1 in
+      let x_is : IsOutermost s x.0 = circuit_outer n bs ring x.0 h.possible.circuit x.1 in
+      let f = h.possible.mated x.0 x.1 x.2 in let w = h.state.mates x.0 f.0 x_is f.1 in
       let says = (h.state.labels x.0 x_is).outer (is_outer (s.label x.0) l) f.0 w.0 f.1 w.1 in
-      (w.0, h.can.mated_inside x.0 f.0 w.0 x.1 x.2 f.1 w.1, λ o. outer_not_inner (sym o ∙ says.0)))
+      (w.0, h.possible.mated_inside x.0 f.0 w.0 x.1 x.2 f.1 w.1, λ o. outer_not_inner (sym o ∙ says.0)))
       (λ l. (x.0, x.1, λ o. both_ways (is_label (s.label x.0) Outer) l (ap (λ k. is_label k Outer) o)))
 
   shrink_falls : measure t < measure s
   shrink_falls =
       let x = low_node in
-      let v = has_vertex n bs x.0 h.nested.1 (circuit_outer n bs ring x.0 h.can.circuit x.1) in
+      let v = has_vertex n bs x.0 h.nested.1 (circuit_outer n bs ring x.0 h.possible.circuit x.1) in
       let falls = vertices_less n s t v.vertex shrink_inside v.is (λ o. x.2 (sym (ap s.label v.node) ∙ o)) (here v.vertex (ring_member v.vertex x.0 v.is v.node x.1)) in
       omega (arith, shrink_blossoms, falls)
 
@@ -419,11 +419,11 @@ module _ {s : State} {depth : ℕ → ℕ} {ring : List Link} {node base : ℕ} 
   shrink_step u vs state scanned = subst (IsStep s u) (sym scanned) (subst (λ (y : State). IsStep s y (newly_outer s ring)) (sym state) (record {
     trees = shrink_trees;
     exposed = shrink_exposed;
-    planted = shrink_planted;
+    all_rooted = shrink_planted;
     falls = shrink_falls;
     inside = λ v is out. outside_before n s t v shrink_inside is out;
     blossoms = shrink_blossoms;
-    vertices = all_holds (λ v. is_vertex n v ≡ true) (newly_outer s ring) (newly_vertex s ring h.nested.1 h.can.circuit);
+    vertices = all_holds (λ v. is_vertex n v ≡ true) (newly_outer s ring) (newly_vertex s ring h.nested.1 h.possible.circuit);
     ends = shrink_ends;
     leaves = shrink_leaves;
   }))
@@ -463,10 +463,10 @@ module _ {s : State} {depth : ℕ → ℕ} {ring : List Link} {node base : ℕ} 
     stood a is = ⊎_elim
         (λ at. subst (λ x. StandsFor x (stands x)) (sym at) (subst (StandsFor node) (sym (put_here (λ a. a) node base)) (record {
           outermost = base_is;
-          lifted = lift_in base h.can.base_in;
-          label = label_here ∙ sym h.can.base_outer;
+          lifted = lift_in base h.possible.base_in;
+          label = label_here ∙ sym h.possible.base_outer;
           mate = mate_here;
-          up = ap (λ l. up_edge_by t l node) label_here ∙ mate_here ∙ sym (ap (λ l. up_edge_by s l base) h.can.base_outer);
+          up = ap (λ l. up_edge_by t l node) label_here ∙ mate_here ∙ sym (ap (λ l. up_edge_by s l base) h.possible.base_outer);
         })))
         (λ old.
         let ne = outer_differs a old.0 in

@@ -3,7 +3,7 @@ use Rattle.alt_forest.proofs.Common.{◌≡◌, ◌≢◌, ℕ, ◌+◌, ◌*◌
 use Rattle.alt_forest.proofs.Common.{subst, arith, ⊎_elim, AllByRecursion, All-from_recursion, or_cases, or_from, or_left, or_right, both_ways, eqb-true, ne_eqb, false_from_ne_true, Link}
 use Rattle.alt_forest.proofs.Common.{is_outermost, in_ring, nodes_of, AllNew, distinct_from_new, first_in, later_in, each_link, Outer, State, IsOutermost, Joins, IsTight, next_node}
 use Rattle.alt_forest.proofs.Common.{IsChainTo, IsSearchState, joins_turned, mate_unique, AreHops, links_up}
-use Rattle.alt_forest.specs.declared.hop.Hop.{Hop}
+use Rattle.alt_forest.specs.declared.grandparent.GrandparentLink.{GrandparentLink}
 use Rattle.tree_steps.proofs.Ladders.{IsLadder, HasRung, rung_at, has_wider}
 use Rattle.tree_steps.specs.Shrinkable.{IsShrinkable}
 use Rattle.tree_steps.specs.Circuits.{mirror, circuit_of}
@@ -19,7 +19,7 @@ pub record WayLinks (s : State) (depth : ℕ → ℕ) (x : ℕ) (ls : List Link)
   pub different : AllNew (nodes_of ls)
   pub even : length ls ≡ 2 * k
 
-pub way_links : (s : State) (depth : ℕ → ℕ) (x : ℕ) (hs : List Hop) (base : ℕ) → AreHops s depth x hs base → WayLinks s depth x (links_up x hs) base (length hs)
+pub way_links : (s : State) (depth : ℕ → ℕ) (x : ℕ) (hs : List GrandparentLink) (base : ℕ) → AreHops s depth x hs base → WayLinks s depth x (links_up x hs) base (length hs)
 way_links s depth x [] base w = record {
   chain = tt;
   first = sym w;
@@ -54,12 +54,12 @@ way_links s depth x (h ∷ hs) base w =
       even = omega (arith, rest.even);
     }
 
-some_hop : (s : State) (depth : ℕ → ℕ) (a b base : ℕ) (hs ks : List Hop) → a ≢ b → AreHops s depth a hs base → AreHops s depth b ks base → 1 ≤ length hs + length ks
+some_hop : (s : State) (depth : ℕ → ℕ) (a b base : ℕ) (hs ks : List GrandparentLink) → a ≢ b → AreHops s depth a hs base → AreHops s depth b ks base → 1 ≤ length hs + length ks
 some_hop s depth a b base [] [] ne wa wb = absurd (ne (wa ∙ sym wb))
 some_hop s depth a b base [] (k ∷ ks) ne wa wb = omega arith
 some_hop s depth a b base (h ∷ hs) ks ne wa wb = omega arith
 
-pub circuit_shrinks : (s : State) (depth : ℕ → ℕ) (a b e base : ℕ) (hs ks : List Hop) → IsSearchState s depth → AreHops s depth a hs base → AreHops s depth b ks base
+pub circuit_shrinks : (s : State) (depth : ℕ → ℕ) (a b e base : ℕ) (hs ks : List GrandparentLink) → IsSearchState s depth → AreHops s depth a hs base → AreHops s depth b ks base
     → IsTight s e → Joins s.graph s.blossoms e a b → a ≢ b → IsOutermost s base → s.label base ≡ Outer
     → ((c : ℕ) → in_ring (links_up a hs) c ≡ true → in_ring (links_up b ks) c ≡ false) → IsShrinkable s depth (circuit_of base e (links_up a hs) (links_up b ks)) base
 circuit_shrinks s depth a b e base hs ks st wa wb tight joins ne base_is base_outer apart =

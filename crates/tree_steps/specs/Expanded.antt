@@ -5,8 +5,8 @@ use Rattle.std.specs.Prelude.{ℤ, None, ◌≡◌, ◌≢◌, ℕ, ◌<◌, ◌
 use Rattle.std.specs.Prelude.{if◌then◌else◌, List, [], ◌∷◌, ◌++◌, Option, Some}
 use Rattle.graph_theory.specs.Graph.{Multigraph, edge_of}
 use Rattle.graph_theory.specs.Parts.{holds}
-use Rattle.edge_queue.specs.declared.item.Item.TheVariants.{Blossom as OfBlossom}
-use Rattle.edge_queue.specs.Moments.{Moments, moment_of, with_moment, IsItem}
+use Rattle.search_heap.specs.declared.item.Item.TheVariants.{Blossom as OfBlossom}
+use Rattle.search_heap.specs.Moments.{Moments, moment_of, with_moment, IsItem}
 use Rattle.blossom_arena.specs.declared.links.Link.{Link}
 use Rattle.blossom_arena.specs.Family.{Blossom, is_vertex, in_ring, names_of, outermost, ring_of}
 use Rattle.blossom_arena.specs.Family.{without, child_holding}
@@ -104,7 +104,7 @@ AreRootsOpened before after node = (a : ℕ) → IsOutermost after a → after.l
 pub record IsOpening (s t : State) (node : ℕ) (noted : List ℕ) : Type 0 where
   pub trees : tree_count t ≡ tree_count s
   pub exposed : exposed_count t ≡ exposed_count s
-  pub planted : IsPlanted s → IsPlanted t
+  pub all_rooted : IsPlanted s → IsPlanted t
   pub falls : measure t < measure s
   pub outer : (v : ℕ) → is_vertex s.graph.vertices v ≡ true
       → s.label (outermost s.blossoms v) ≡ Outer → t.label (outermost t.blossoms v) ≡ Outer
@@ -115,7 +115,7 @@ pub record IsOpening (s t : State) (node : ℕ) (noted : List ℕ) : Type 0 wher
   pub blossoms : outside_among t t.blossoms < outside_among s s.blossoms
   pub vertices : All (λ v. is_vertex s.graph.vertices v ≡ true) noted
   pub ends : ends_around s.graph noted + looks_left t ≤ looks_left s
-  pub around : ends_looked t noted + outside_ends t + out_ends s ≡ outside_ends s + out_ends t
+  pub edge_ends : ends_looked t noted + outside_ends t + out_ends s ≡ outside_ends s + out_ends t
   pub leaves : Leaves s t noted
   pub tree : HasNoTree t → ⊥
   -- once the inner blossoms of the circuit have got their moments and the blossom has none any

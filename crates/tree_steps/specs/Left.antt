@@ -30,7 +30,7 @@ pub record Leaves (s t : State) (noted : List ℕ) : Type 0 where
 pub record IsStep (s t : State) (noted : List ℕ) : Type 0 where
   pub trees : tree_count t ≡ tree_count s
   pub exposed : exposed_count t ≡ exposed_count s
-  pub planted : IsPlanted s → IsPlanted t
+  pub all_rooted : IsPlanted s → IsPlanted t
   pub falls : measure t < measure s
   pub inside : (v : ℕ) → is_vertex s.graph.vertices v ≡ true → is_outside t v ≡ true
       → is_outside s v ≡ true

@@ -4,31 +4,31 @@ use Rattle.graph_theory.specs.Parts.{holds}
 use Rattle.blossom_arena.specs.declared.links.Link.{Link}
 use Rattle.blossom_arena.specs.declared.label.Label.TheVariants.{Out}
 use Rattle.blossom_arena.specs.Family.{in_ring, names_of}
-use Rattle.edge_queue.specs.declared.item.Item.TheVariants.{Blossom as OfBlossom}
-use Rattle.edge_queue.specs.Moments.{Moments, moment_of}
+use Rattle.search_heap.specs.declared.item.Item.TheVariants.{Blossom as OfBlossom}
+use Rattle.search_heap.specs.Moments.{Moments, moment_of}
 use Rattle.alt_forest.specs.declared.search.Search.{Search}
 use Rattle.alt_forest.specs.State.{State}
 use Rattle.alt_forest.specs.Entries.{IsBlossomEntered}
 use Rattle.alt_forest.specs.Searches.{IsSound, label_at}
-use Rattle.alt_forest.specs.Standing.{AreListed, seed_at}
+use Rattle.alt_forest.specs.TreeNodes.{AreListed, tree_id_at}
 
 -- a node moves as its label says
 abbrev pub IsMoving : Search → ℕ → Type 0
 IsMoving s a = label_at s.arena.motions a ≡ label_at s.labels.items a
 
 -- what has become of the search f once those of these nodes that are in trees are listed, with this
--- seed
-pub record AreEnlisted (f k : Search) (ring : List Link) (seed : ℕ) : Type 0 where
-  pub rest : k
-      ≡ record f { arena = record f.arena { motions = k.arena.motions }; standing = k.standing }
+-- tree id
+pub record AreEnlisted (f k : Search) (ring : List Link) (tree_id : ℕ) : Type 0 where
+  pub frame : k
+      ≡ record f { arena = record f.arena { motions = k.arena.motions }; tree_nodes = k.tree_nodes }
   pub sound : IsSound k
-  pub listed : AreListed f.graph.vertices k.standing.nodes k.standing.seeds
+  pub listed : AreListed f.graph.vertices k.tree_nodes.nodes k.tree_nodes.tree_ids
   pub there : (a : ℕ) → in_ring ring a ≡ true → label_at f.labels.items a ≢ Out
-      → seed_at k.standing.seeds a ≡ Some seed
+      → tree_id_at k.tree_nodes.tree_ids a ≡ Some tree_id
   pub moves : (a : ℕ) → in_ring ring a ≡ true → label_at f.labels.items a ≢ Out → IsMoving k a
-  pub still : (a : ℕ) → IsMoving f a → IsMoving k a
+  pub keeps_moving : (a : ℕ) → IsMoving f a → IsMoving k a
   pub keeps : (a : ℕ) → in_ring ring a ≡ false
-      → seed_at k.standing.seeds a ≡ seed_at f.standing.seeds a
+      → tree_id_at k.tree_nodes.tree_ids a ≡ tree_id_at f.tree_nodes.tree_ids a
 
 -- the inner blossoms among these nodes have got their moments, and all other nodes and those that
 -- are no blossoms have theirs

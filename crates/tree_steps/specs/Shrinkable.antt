@@ -35,7 +35,7 @@ pub record CanClose (s : State) (links : List Link) (base : ℕ) : Type 0 where
 pub record IsShrunk (before after : State) (node : ℕ) : Type 0 where
   pub ring : List Link
   pub base : ℕ
-  pub can : CanClose before ring base
+  pub possible : CanClose before ring base
   pub state : after ≡ shrunk_state before (made_of before.blossoms ring node) base
 
 -- two different outer nodes of one tree
@@ -50,7 +50,7 @@ pub record AreInOneTree (s : State) (a b : ℕ) : Type 0 where
 -- the circuit that an edge closes can be shrunk, has the nodes of the edge's two ends, and lies in
 -- their tree
 pub record Closes (s : State) (e : ℕ) : Type 0 where
-  pub can : CanClose s (closed_by s e) (base_of s e)
+  pub possible : CanClose s (closed_by s e) (base_of s e)
   pub u_on : in_ring (closed_by s e) (node_u s.graph s.blossoms e) ≡ true
   pub v_on : in_ring (closed_by s e) (node_v s.graph s.blossoms e) ≡ true
   pub one_tree : (a : ℕ) → in_ring (closed_by s e) a ≡ true

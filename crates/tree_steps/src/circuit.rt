@@ -47,7 +47,7 @@ pub(crate) fn fill_circuit(search: &mut Search, a: NodeId, b: NodeId, base: Node
     ensures circuit { search.new.circuit.items ≡ circuit_of base e
         (links_above (state_of search.old) (before (path_of (state_of search.old) a) base))
         (links_above (state_of search.old) (before (path_of (state_of search.old) b) base)) }
-    ensures rest { search.new ≡ record search.old { circuit = search.new.circuit } }
+    ensures frame { search.new ≡ record search.old { circuit = search.new.circuit } }
     ensures sound { IsSound search.new }
 {
     search.circuit.clear();
@@ -91,7 +91,7 @@ pub(crate) fn fill_round(search: &mut Search, b: NodeId, base: NodeId) -> EdgeId
     ensures round { IsRound (ring_of search.old.arena.blossoms b) base result
         search.new.circuit.items }
     ensures room { vec_len search.new.circuit + 1 ≤ vec_capacity search.new.circuit }
-    ensures rest { search.new ≡ record search.old { circuit = search.new.circuit } }
+    ensures frame { search.new ≡ record search.old { circuit = search.new.circuit } }
     ensures capacity { vec_capacity search.new.circuit ≡ vec_capacity search.old.circuit }
 {
     search.circuit.clear();

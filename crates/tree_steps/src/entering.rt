@@ -1,14 +1,14 @@
 ghost use Rattle.std.specs.Prelude.{◌≡◌, ℕ, pos, ◌≤ℤ◌, true, None};
 ghost use Rattle.graph_theory.specs.declared.limits.TheConstants.{NUMBER_LIMIT};
 ghost use Rattle.blossom_arena.specs.Family.{in_ring};
-ghost use Rattle.edge_queue.specs.Moments.{with_moment, IsItem};
+ghost use Rattle.search_heap.specs.Moments.{with_moment, IsItem};
 ghost use Rattle.alt_forest.specs.State.{IsOutermost};
 ghost use Rattle.alt_forest.specs.Searches.{IsSound, state_of};
-ghost use Rattle.event_bounds.specs.Bounds.{HasPlaces};
+ghost use Rattle.search_keys.specs.Bounds.{HasPlaces};
 ghost use Rattle.tree_steps.specs.Moving.{AreEntered};
 
 use alt_forest::{Item, Search};
-use event_bounds::EventBounds;
+use search_keys::EventBounds;
 
 /// Gives the inner blossoms among the nodes of the circuit their moments.
 pub(crate) fn enter_circuit(search: &mut Search)
@@ -17,7 +17,7 @@ pub(crate) fn enter_circuit(search: &mut Search)
     requires high { search.old.clock ≤ℤ NUMBER_LIMIT }
     requires circuit { (a : ℕ) → in_ring search.old.circuit.items a ≡ true
         → IsOutermost (state_of search.old) a }
-    ensures rest { search.new ≡ record search.old { queue = search.new.queue } }
+    ensures frame { search.new ≡ record search.old { queue = search.new.queue } }
     ensures sound { IsSound search.new }
     ensures entered { AreEntered (state_of search.old) search.old.clock search.old.circuit.items
         search.old.queue search.new.queue }
@@ -39,7 +39,7 @@ pub(crate) fn bound_circuit(search: &Search, bounds: &mut EventBounds)
     requires places { HasPlaces search.now.graph bounds.old }
     ensures entered { AreEntered (state_of search.now) search.now.clock search.now.circuit.items
         bounds.old.moments bounds.new.moments }
-    ensures rest { bounds.new ≡ record bounds.old { moments = bounds.new.moments } }
+    ensures frame { bounds.new ≡ record bounds.old { moments = bounds.new.moments } }
     ensures places { HasPlaces search.now.graph bounds.new }
 {
     for place in 0..search.circuit.len() {
@@ -53,7 +53,7 @@ pub(crate) fn drop_entry(search: &mut Search, item: Item)
     requires sound { IsSound search.old }
     requires item { IsItem search.old.queue item }
     ensures queue { search.new.queue ≡ with_moment search.old.queue item None }
-    ensures rest { search.new ≡ record search.old { queue = search.new.queue } }
+    ensures frame { search.new ≡ record search.old { queue = search.new.queue } }
     ensures sound { IsSound search.new }
 {
     search.queue.remove(item);

@@ -5,8 +5,8 @@ ghost use Rattle.graph_theory.specs.Graph.{IsEdgeNumber};
 ghost use Rattle.graph_theory.specs.Parts.{holds};
 ghost use Rattle.blossom_arena.specs.Family.{in_ring, is_vertex, members_of, names_of, nodes_of};
 ghost use Rattle.blossom_arena.specs.Family.{ring_of, dissolved};
-ghost use Rattle.edge_queue.specs.declared.item.Item.TheVariants.{Blossom as OfBlossom};
-ghost use Rattle.edge_queue.specs.Moments.{moment_of};
+ghost use Rattle.search_heap.specs.declared.item.Item.TheVariants.{Blossom as OfBlossom};
+ghost use Rattle.search_heap.specs.Moments.{moment_of};
 ghost use Rattle.alt_forest.specs.State.{IsOutermost, node_u, node_v};
 ghost use Rattle.alt_forest.specs.Trees.{node_limit};
 ghost use Rattle.alt_forest.specs.Counts.{is_outside, outside_among, tree_count, exposed_count};
@@ -15,14 +15,14 @@ ghost use Rattle.alt_forest.specs.Entries.{IsQueued, ends_around, entry_count, l
 ghost use Rattle.alt_forest.specs.Entries.{out_ends, outside_ends};
 ghost use Rattle.alt_forest.specs.Events.{CanExpand};
 ghost use Rattle.alt_forest.specs.Searches.{HasShape, IsSound, label_at, state_of};
-ghost use Rattle.alt_forest.specs.Standing.{IsStanding};
+ghost use Rattle.alt_forest.specs.TreeNodes.{HasTreeNodes};
 ghost use Rattle.tree_steps.specs.Circuits.{before, mirror, last_edge};
 ghost use Rattle.tree_steps.specs.Expanded.{child_at, opened, hung_up, IsExpanded, IsOpening};
 ghost use Rattle.tree_steps.specs.Expanded.{AreRootsOpened};
 
 use crate::circuit::{fill_round, place_of};
 use crate::entering::{drop_entry, enter_circuit};
-use crate::listing::enlist_circuit;
+use crate::insertion::insert_circuit;
 use crate::pairs::{climb_down, climb_up, label_out, mate_pairs};
 use crate::scanning::scan_node;
 use crate::way_up::or_none;
@@ -52,13 +52,13 @@ fn child_at(search: &Search, b: NodeId, e: EdgeId) -> NodeId
 /// the search's circuit has, are mates two by two and labelled out.
 fn open_at(search: &mut Search, b: NodeId, base: NodeId, mate: EdgeId)
     requires shape { HasShape search.old }
-    requires can { CanExpand (state_of search.old) b }
+    requires possible { CanExpand (state_of search.old) b }
     requires nodes { AllByRecursion (λ (l : Link). l.node ≤ node_limit search.old.graph.vertices)
         search.old.circuit.items }
     requires base { base ≤ node_limit search.old.graph.vertices }
     ensures state { state_of search.new
         ≡ opened (state_of search.old) b base search.old.circuit.items mate }
-    ensures rest { search.new
+    ensures frame { search.new
         ≡ record search.old {
           arena = dissolved search.old.arena b;
           labels = search.new.labels;
@@ -93,7 +93,7 @@ fn take_even_way(search: &mut Search, base: NodeId, entry: NodeId, first: EdgeId
         → state_of search.new
         ≡ hung_up (state_of search.old) base first parent
         (take (place + 1) search.old.circuit.items) }
-    ensures rest { search.new
+    ensures frame { search.new
         ≡ record search.old { labels = search.new.labels; parents = search.new.parents } }
     ensures shape { HasShape search.new }
 {
@@ -122,11 +122,11 @@ fn take_even_way(search: &mut Search, base: NodeId, entry: NodeId, first: EdgeId
 /// and its entry into the tree. The search's circuit has the nodes of `b`'s.
 fn lay_open(search: &mut Search, b: NodeId)
     requires sound { IsSound search.old }
-    requires can { CanExpand (state_of search.old) b }
+    requires possible { CanExpand (state_of search.old) b }
     ensures expanded { IsExpanded (state_of search.old) (state_of search.new) b }
     ensures circuit { (a : ℕ) → in_ring search.new.circuit.items a
         ≡ in_ring (ring_of search.old.arena.blossoms b) a }
-    ensures rest { search.new ≡ record search.old {
+    ensures frame { search.new ≡ record search.old {
       arena = record search.old.arena {
         motions = search.new.arena.motions;
         blossoms = search.new.arena.blossoms;
@@ -137,7 +137,7 @@ fn lay_open(search: &mut Search, b: NodeId)
       circuit = search.new.circuit;
     } }
     ensures sound { IsSound search.new }
-    ensures still { (a : ℕ) → a ≢ b
+    ensures outside_unchanged { (a : ℕ) → a ≢ b
         → label_at search.new.arena.motions a ≡ label_at search.old.arena.motions a }
     ensures roots { AreRootsOpened (state_of search.old) (state_of search.new) b }
 {
@@ -160,15 +160,15 @@ fn lay_open(search: &mut Search, b: NodeId)
 /// yet.
 pub(crate) fn open_blossom(search: &mut Search, b: NodeId)
     requires sound { IsSound search.old }
-    requires standing { IsStanding search.old }
-    requires can { CanExpand (state_of search.old) b }
+    requires listed { HasTreeNodes search.old }
+    requires possible { CanExpand (state_of search.old) b }
     ensures expanded { IsExpanded (state_of search.old) (state_of search.new) b }
     ensures circuit { (a : ℕ) → in_ring search.new.circuit.items a
         ≡ in_ring (ring_of search.old.arena.blossoms b) a }
     ensures outer { (a : ℕ) → in_ring search.new.circuit.items a ≡ true
         → IsOutermost (state_of search.new) a }
     ensures scanned { search.new.scanned.items ≡ members_of search.old.arena.blossoms b }
-    ensures rest { search.new ≡ record search.old {
+    ensures frame { search.new ≡ record search.old {
       arena = record search.old.arena {
         motions = search.new.arena.motions;
         blossoms = search.new.arena.blossoms;
@@ -177,18 +177,18 @@ pub(crate) fn open_blossom(search: &mut Search, b: NodeId)
       parents = search.new.parents;
       mates = search.new.mates;
       circuit = search.new.circuit;
-      standing = search.new.standing;
+      tree_nodes = search.new.tree_nodes;
       scanned = search.new.scanned;
     } }
     ensures sound { IsSound search.new }
-    ensures standing { IsStanding search.new }
+    ensures listed { HasTreeNodes search.new }
     ensures opening { IsOpening (state_of search.old) (state_of search.new) b
         search.new.scanned.items }
 {
-    let seed = search.root_vertex(b);
+    let tree_id = search.root_vertex(b);
     scan_node(search, b);
     lay_open(search, b);
-    enlist_circuit(search, seed);
+    insert_circuit(search, tree_id);
 }
 
 /// Expands `b`, an inner blossom of dual 0, in a search over `graph` (chapters 24 and 26): the
@@ -200,14 +200,14 @@ pub(crate) fn open_blossom(search: &mut Search, b: NodeId)
 /// takes no memory, and there is no error.
 pub fn expand<L: Ledger>(search: &mut Search, graph: &Graph, b: NodeId, steps: &mut Steps<L>)
     requires sound { IsSound search.old }
-    requires queued { IsQueued search.old }
-    requires standing { IsStanding search.old }
-    requires same { graph.now ≡ search.old.graph }
-    requires can { CanExpand (state_of search.old) b }
+    requires event_times { IsQueued search.old }
+    requires listed { HasTreeNodes search.old }
+    requires same_graph { graph.now ≡ search.old.graph }
+    requires possible { CanExpand (state_of search.old) b }
 
     // Opens an inner blossom of dual 0 and keeps the path of the tree through it.
     ensures expanded { IsExpanded (state_of search.old) (state_of search.new) b }
-    ensures rest { search.new ≡ record search.old {
+    ensures frame { search.new ≡ record search.old {
       arena = record search.old.arena {
         motions = search.new.arena.motions;
         blossoms = search.new.arena.blossoms;
@@ -217,16 +217,16 @@ pub fn expand<L: Ledger>(search: &mut Search, graph: &Graph, b: NodeId, steps: &
       mates = search.new.mates;
       circuit = search.new.circuit;
       queue = search.new.queue;
-      standing = search.new.standing;
+      tree_nodes = search.new.tree_nodes;
       scanned = search.new.scanned;
     } }
     ensures sound { IsSound search.new }
-    ensures queued { IsQueued search.new }
+    ensures event_times { IsQueued search.new }
     ensures taken { moment_of search.new.queue (OfBlossom b) ≡ None }
-    ensures standing { IsStanding search.new }
+    ensures listed { HasTreeNodes search.new }
     ensures trees { tree_count (state_of search.new) ≡ tree_count (state_of search.old) }
     ensures exposed { exposed_count (state_of search.new) ≡ exposed_count (state_of search.old) }
-    ensures planted { IsPlanted (state_of search.old) → IsPlanted (state_of search.new) }
+    ensures all_rooted { IsPlanted (state_of search.old) → IsPlanted (state_of search.new) }
 
     // Lowers what is outside outer nodes; inspects at most the edge ends at the blossom's vertices.
     ensures falls { measure (state_of search.new) < measure (state_of search.old) }
@@ -234,11 +234,12 @@ pub fn expand<L: Ledger>(search: &mut Search, graph: &Graph, b: NodeId, steps: &
         → is_outside (state_of search.new) w ≡ true → is_outside (state_of search.old) w ≡ true }
     ensures blossoms { outside_among (state_of search.new) search.new.arena.blossoms
         < outside_among (state_of search.old) search.old.arena.blossoms }
-    ensures looks { steps.new + looks_left (state_of search.new)
+    ensures inspections { steps.new + looks_left (state_of search.new)
         ≤ steps.old + 1 + looks_left (state_of search.old) }
     ensures ends { steps.new ≤ steps.old + 1 + ends_around graph.now
         (members_of search.old.arena.blossoms b) }
-    ensures around { steps.new + outside_ends (state_of search.new) + out_ends (state_of search.old)
+    ensures edge_ends { steps.new + outside_ends (state_of search.new)
+        + out_ends (state_of search.old)
         ≤ steps.old + 1 + outside_ends (state_of search.old) + out_ends (state_of search.new) }
     ensures count { entry_count search.new.queue + steps.old + 1 ≤ entry_count search.old.queue
         + steps.new }

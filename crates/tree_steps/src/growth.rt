@@ -1,7 +1,7 @@
 ghost use Rattle.std.specs.Prelude.{◌≡◌, ◌<◌, ◌≤◌, ◌+◌, ℕ, true, Some, None};
 ghost use Rattle.blossom_arena.specs.Family.{is_vertex, members_of};
-ghost use Rattle.edge_queue.specs.declared.item.Item.TheVariants.{Edge as OfEdge};
-ghost use Rattle.edge_queue.specs.Moments.{moment_of};
+ghost use Rattle.search_heap.specs.declared.item.Item.TheVariants.{Edge as OfEdge};
+ghost use Rattle.search_heap.specs.Moments.{moment_of};
 ghost use Rattle.blossom_arena.specs.declared.label.Label.TheVariants.{Outer, Inner};
 ghost use Rattle.alt_forest.specs.State.{IsOutermost, IsMate};
 ghost use Rattle.alt_forest.specs.Counts.{is_outside, outside_among, tree_count, exposed_count};
@@ -9,11 +9,11 @@ ghost use Rattle.alt_forest.specs.Counts.{measure, IsPlanted};
 ghost use Rattle.alt_forest.specs.Entries.{IsQueued, entry_count, looks_left, outside_ends};
 ghost use Rattle.alt_forest.specs.Events.{CanGrow};
 ghost use Rattle.alt_forest.specs.Searches.{IsSound, state_of, label_at, edge_in, put};
-ghost use Rattle.alt_forest.specs.Standing.{IsStanding, seed_at};
+ghost use Rattle.alt_forest.specs.TreeNodes.{HasTreeNodes, tree_id_at};
 ghost use Rattle.tree_steps.specs.Grown.{grown};
 ghost use Rattle.tree_steps.specs.Left.{IsStep};
 
-use crate::listing::enlist;
+use crate::insertion::insert_node;
 use crate::scanning::{look_on, scan_node};
 use alt_forest::{Label, Search, set_edge, set_label};
 use base_types::{EdgeId, Steps, VertexId};
@@ -24,7 +24,7 @@ use weighted_graph::Graph;
 /// The node labelled out that a grow takes in.
 fn far_node(search: &Search, e: EdgeId) -> NodeId
     requires sound { IsSound search.now }
-    requires can { CanGrow (state_of search.now) e }
+    requires possible { CanGrow (state_of search.now) e }
     ensures { (g : CanGrow (state_of search.now) e) → result ≡ g.far }
 {
     let (u, v, _) = search.graph.edge(e);
@@ -37,13 +37,13 @@ fn far_node(search: &Search, e: EdgeId) -> NodeId
 }
 
 /// The vertex that is kept for the node that a grow's two nodes hang under.
-fn near_seed(search: &Search, e: EdgeId) -> VertexId
+fn near_tree_id(search: &Search, e: EdgeId) -> VertexId
     requires sound { IsSound search.now }
-    requires standing { IsStanding search.now }
-    requires can { CanGrow (state_of search.now) e }
+    requires listed { HasTreeNodes search.now }
+    requires possible { CanGrow (state_of search.now) e }
     ensures vertex { is_vertex search.now.graph.vertices result ≡ true }
     ensures kept { (g : CanGrow (state_of search.now) e)
-        → seed_at search.now.standing.seeds g.near ≡ Some result }
+        → tree_id_at search.now.tree_nodes.tree_ids g.near ≡ Some result }
 {
     let (u, v, _) = search.graph.edge(e);
     let node = search.arena.outermost(u);
@@ -71,13 +71,13 @@ fn mate_node(search: &Search, node: NodeId) -> NodeId
 /// labels its mate outer. It answers the two.
 fn take_in(search: &mut Search, e: EdgeId) -> (NodeId, NodeId)
     requires sound { IsSound search.old }
-    requires can { CanGrow (state_of search.old) e }
+    requires possible { CanGrow (state_of search.old) e }
     ensures far { (g : CanGrow (state_of search.old) e) → result.0 ≡ g.far }
     ensures mate { (g : CanGrow (state_of search.old) e)
         → IsMate (state_of search.old) g.far g.mate_edge result.1 }
     ensures grown { (g : CanGrow (state_of search.old) e)
         → state_of search.new ≡ grown (state_of search.old) e g.far result.1 }
-    ensures rest { search.new
+    ensures frame { search.new
         ≡ record search.old { labels = search.new.labels; parents = search.new.parents } }
     ensures sound { IsSound search.new }
 {
@@ -94,8 +94,8 @@ fn take_in(search: &mut Search, e: EdgeId) -> (NodeId, NodeId)
 /// answers the far node, which has no moment yet.
 pub(crate) fn extend_tree(search: &mut Search, e: EdgeId) -> NodeId
     requires sound { IsSound search.old }
-    requires standing { IsStanding search.old }
-    requires can { CanGrow (state_of search.old) e }
+    requires listed { HasTreeNodes search.old }
+    requires possible { CanGrow (state_of search.old) e }
     ensures far { (g : CanGrow (state_of search.old) e) → result ≡ g.far }
     ensures mate { (g : CanGrow (state_of search.old) e)
         → (mate : ℕ) × IsMate (state_of search.old) g.far g.mate_edge mate
@@ -103,21 +103,21 @@ pub(crate) fn extend_tree(search: &mut Search, e: EdgeId) -> NodeId
     ensures grown { (g : CanGrow (state_of search.old) e) (mate : ℕ)
         → IsMate (state_of search.old) g.far g.mate_edge mate
         → state_of search.new ≡ grown (state_of search.old) e g.far mate }
-    ensures rest { search.new ≡ record search.old {
+    ensures frame { search.new ≡ record search.old {
       arena = record search.old.arena { motions = search.new.arena.motions };
       labels = search.new.labels;
       parents = search.new.parents;
-      standing = search.new.standing;
+      tree_nodes = search.new.tree_nodes;
       scanned = search.new.scanned;
     } }
     ensures sound { IsSound search.new }
-    ensures standing { IsStanding search.new }
+    ensures listed { HasTreeNodes search.new }
     ensures step { IsStep (state_of search.old) (state_of search.new) search.new.scanned.items }
 {
-    let seed = near_seed(search, e);
+    let tree_id = near_tree_id(search, e);
     let (far, mate) = take_in(search, e);
-    enlist(search, far, seed);
-    enlist(search, mate, seed);
+    insert_node(search, far, tree_id);
+    insert_node(search, mate, tree_id);
     scan_node(search, mate);
     far
 }
@@ -128,32 +128,32 @@ pub(crate) fn extend_tree(search: &mut Search, e: EdgeId) -> NodeId
 /// the event, and takes no memory.
 pub fn grow<L: Ledger>(search: &mut Search, graph: &Graph, e: EdgeId, steps: &mut Steps<L>)
     requires sound { IsSound search.old }
-    requires queued { IsQueued search.old }
-    requires standing { IsStanding search.old }
-    requires same { graph.now ≡ search.old.graph }
-    requires can { CanGrow (state_of search.old) e }
+    requires event_times { IsQueued search.old }
+    requires listed { HasTreeNodes search.old }
+    requires same_graph { graph.now ≡ search.old.graph }
+    requires possible { CanGrow (state_of search.old) e }
 
     // Takes a node and its mate into a tree, and changes nothing else that isn't named.
     ensures grown { (g : CanGrow (state_of search.old) e) (mate : ℕ)
         → IsMate (state_of search.old) g.far g.mate_edge mate
         → state_of search.new ≡ grown (state_of search.old) e g.far mate }
-    ensures rest { search.new ≡ record search.old {
+    ensures frame { search.new ≡ record search.old {
       arena = record search.old.arena { motions = search.new.arena.motions };
       labels = search.new.labels;
       parents = search.new.parents;
       queue = search.new.queue;
-      standing = search.new.standing;
+      tree_nodes = search.new.tree_nodes;
       scanned = search.new.scanned;
     } }
     ensures sound { IsSound search.new }
-    ensures queued { IsQueued search.new }
+    ensures event_times { IsQueued search.new }
 
     // Takes the event time of its own edge away.
     ensures taken { moment_of search.new.queue (OfEdge e) ≡ None }
-    ensures standing { IsStanding search.new }
+    ensures listed { HasTreeNodes search.new }
     ensures trees { tree_count (state_of search.new) ≡ tree_count (state_of search.old) }
     ensures exposed { exposed_count (state_of search.new) ≡ exposed_count (state_of search.old) }
-    ensures planted { IsPlanted (state_of search.old) → IsPlanted (state_of search.new) }
+    ensures all_rooted { IsPlanted (state_of search.old) → IsPlanted (state_of search.new) }
     ensures falls { measure (state_of search.new) < measure (state_of search.old) }
     ensures inside { (w : ℕ) → is_vertex search.old.graph.vertices w ≡ true
         → is_outside (state_of search.new) w ≡ true → is_outside (state_of search.old) w ≡ true }
@@ -162,9 +162,9 @@ pub fn grow<L: Ledger>(search: &mut Search, graph: &Graph, e: EdgeId, steps: &mu
 
     // Inspects no more edge ends than there are at the vertices that come into an outer node, and
     // counts itself.
-    ensures looks { steps.new + looks_left (state_of search.new)
+    ensures inspections { steps.new + looks_left (state_of search.new)
         ≤ steps.old + 1 + looks_left (state_of search.old) }
-    ensures around { steps.new + outside_ends (state_of search.new)
+    ensures edge_ends { steps.new + outside_ends (state_of search.new)
         ≤ steps.old + 1 + outside_ends (state_of search.old) }
     ensures count { entry_count search.new.queue + steps.old + 2 ≤ entry_count search.old.queue
         + steps.new }

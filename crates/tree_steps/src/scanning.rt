@@ -3,8 +3,8 @@ ghost use Rattle.std.specs.Prelude.{length, vec_len};
 ghost use Rattle.std.specs.Vec.{vec_capacity};
 ghost use Rattle.graph_theory.specs.Graph.{IsEdgeNumber, edge_of};
 ghost use Rattle.blossom_arena.specs.Family.{is_node, is_vertex, members_of, IsCircuit};
-ghost use Rattle.edge_queue.specs.declared.item.Item.TheVariants.{Edge as OfEdge};
-ghost use Rattle.edge_queue.specs.Moments.{moment_of};
+ghost use Rattle.search_heap.specs.declared.item.Item.TheVariants.{Edge as OfEdge};
+ghost use Rattle.search_heap.specs.Moments.{moment_of};
 ghost use Rattle.alt_forest.specs.State.{IsOutermost};
 ghost use Rattle.alt_forest.specs.Entries.{NeedsMoment, IsQueued, IsQueuedBut, ends_around};
 ghost use Rattle.alt_forest.specs.Entries.{ends_looked, entry_count, touches_any};
@@ -23,7 +23,7 @@ pub(crate) fn scan_node(search: &mut Search, node: NodeId)
     requires sound { IsSound search.old }
     requires node { is_node search.old.graph.vertices search.old.arena.blossoms node ≡ true }
     ensures scanned { search.new.scanned.items ≡ members_of search.old.arena.blossoms node }
-    ensures rest { search.new ≡ record search.old { scanned = search.new.scanned } }
+    ensures frame { search.new ≡ record search.old { scanned = search.new.scanned } }
     ensures sound { IsSound search.new }
 {
     search.scanned.clear();
@@ -39,7 +39,7 @@ fn scan_unless_outer(search: &mut Search, node: NodeId)
     ensures scanned { search.new.scanned.items ≡ search.old.scanned.items
         ++ unless_outer (state_of search.old) node }
     ensures capacity { vec_capacity search.new.scanned ≡ vec_capacity search.old.scanned }
-    ensures rest { search.new ≡ record search.old { scanned = search.new.scanned } }
+    ensures frame { search.new ≡ record search.old { scanned = search.new.scanned } }
     ensures sound { IsSound search.new }
 {
     if search.label(node) == Label::Outer {
@@ -55,7 +55,7 @@ pub(crate) fn scan_circuit(search: &mut Search)
         search.old.circuit.items }
     ensures scanned { search.new.scanned.items
         ≡ newly_outer (state_of search.old) search.old.circuit.items }
-    ensures rest { search.new ≡ record search.old { scanned = search.new.scanned } }
+    ensures frame { search.new ≡ record search.old { scanned = search.new.scanned } }
     ensures sound { IsSound search.new }
 {
     search.scanned.clear();
@@ -74,19 +74,20 @@ pub(crate) fn look_on<L: Ledger>(
     steps: &mut Steps<L>,
 )
     requires sound { IsSound search.old }
-    requires same { graph.now ≡ search.old.graph }
+    requires same_graph { graph.now ≡ search.old.graph }
     requires edge { IsEdgeNumber search.old.graph e }
     requires had { (m : ℤ) × (moment_of search.old.queue (OfEdge e) ≡ Some m) }
     requires free { (m : Option ℤ) → NeedsMoment (state_of search.old) search.old.clock e m }
     requires missed { touches_any search.old.scanned.items (edge_of search.old.graph e) ≡ false }
     requires vertices { All (λ v. is_vertex search.old.graph.vertices v ≡ true)
         search.old.scanned.items }
-    requires queued { IsQueuedBut search.old search.old.scanned.items }
-    ensures rest { search.new ≡ record search.old { queue = search.new.queue } }
+    requires event_times { IsQueuedBut search.old search.old.scanned.items }
+    ensures frame { search.new ≡ record search.old { queue = search.new.queue } }
     ensures sound { IsSound search.new }
-    ensures queued { IsQueued search.new }
+    ensures event_times { IsQueued search.new }
     ensures taken { moment_of search.new.queue (OfEdge e) ≡ None }
-    ensures looks { steps.new ≤ steps.old + ends_around search.old.graph search.old.scanned.items }
+    ensures inspections { steps.new ≤ steps.old
+        + ends_around search.old.graph search.old.scanned.items }
     ensures count { entry_count search.new.queue + steps.old + 1 ≤ entry_count search.old.queue
         + steps.new }
 {

@@ -1,8 +1,8 @@
 ghost use Rattle.std.specs.Prelude.{◌≡◌, ◌≢◌, ◌<◌, ◌≤◌, ◌+◌, ℕ, true, false, Some, None};
 ghost use Rattle.graph_theory.specs.Graph.{IsEdgeNumber, edge_of};
 ghost use Rattle.blossom_arena.specs.Family.{in_ring, is_vertex, outermost, made_of, ring_of};
-ghost use Rattle.edge_queue.specs.declared.item.Item.TheVariants.{Edge as OfEdge};
-ghost use Rattle.edge_queue.specs.Moments.{moment_of};
+ghost use Rattle.search_heap.specs.declared.item.Item.TheVariants.{Edge as OfEdge};
+ghost use Rattle.search_heap.specs.Moments.{moment_of};
 ghost use Rattle.blossom_arena.specs.declared.label.Label.TheVariants.{Outer, Out};
 ghost use Rattle.alt_forest.specs.State.{IsOutermost, node_u};
 ghost use Rattle.alt_forest.specs.Trees.{path_of, first_common};
@@ -12,7 +12,7 @@ ghost use Rattle.alt_forest.specs.Entries.{IsQueued, entry_count, looks_left, ou
 ghost use Rattle.alt_forest.specs.Entries.{touches_any};
 ghost use Rattle.alt_forest.specs.Events.{CanShrink};
 ghost use Rattle.alt_forest.specs.Searches.{IsSound, state_of, label_at};
-ghost use Rattle.alt_forest.specs.Standing.{IsStanding, seed_at};
+ghost use Rattle.alt_forest.specs.TreeNodes.{HasTreeNodes, tree_id_at};
 ghost use Rattle.tree_steps.specs.Circuits.{base_of, closed_by};
 ghost use Rattle.tree_steps.specs.Left.{IsStep};
 ghost use Rattle.tree_steps.specs.Scanned.{newly_outer};
@@ -20,7 +20,7 @@ ghost use Rattle.tree_steps.specs.Shrunk.{shrunk_state};
 ghost use Rattle.tree_steps.specs.Shrinkable.{AreInOneTree, CanClose, Closes, IsShrunk};
 
 use crate::circuit::fill_circuit;
-use crate::listing::enlist;
+use crate::insertion::insert_node;
 use crate::scanning::{look_on, scan_circuit};
 use alt_forest::{Label, Search, set_edge, set_label};
 use base_types::{EdgeId, Steps, VertexId};
@@ -31,13 +31,13 @@ use weighted_graph::Graph;
 /// Makes one outer node of the circuit, which has the mate of its base.
 fn close(search: &mut Search, base: NodeId) -> NodeId
     requires sound { IsSound search.old }
-    requires can { CanClose (state_of search.old) search.old.circuit.items base }
+    requires possible { CanClose (state_of search.old) search.old.circuit.items base }
     ensures state { state_of search.new
         ≡ shrunk_state (state_of search.old)
         (made_of search.old.arena.blossoms search.old.circuit.items result) base }
-    ensures still { (a : ℕ) → a ≢ result → in_ring search.old.circuit.items a ≡ false
+    ensures outside_unchanged { (a : ℕ) → a ≢ result → in_ring search.old.circuit.items a ≡ false
         → label_at search.new.arena.motions a ≡ label_at search.old.arena.motions a }
-    ensures rest { search.new
+    ensures frame { search.new
         ≡ record search.old
         { arena = search.new.arena; labels = search.new.labels; mates = search.new.mates } }
     ensures sound { IsSound search.new }
@@ -63,12 +63,12 @@ fn meeting_node(search: &Search, a: NodeId, b: NodeId) -> NodeId
 }
 
 /// The vertex that is kept for the nodes of the tree that a shrink's edge lies in.
-fn tree_seed(search: &Search, e: EdgeId) -> VertexId
+fn tree_id_of(search: &Search, e: EdgeId) -> VertexId
     requires sound { IsSound search.now }
-    requires standing { IsStanding search.now }
-    requires can { CanShrink (state_of search.now) e }
+    requires listed { HasTreeNodes search.now }
+    requires possible { CanShrink (state_of search.now) e }
     ensures vertex { is_vertex search.now.graph.vertices result ≡ true }
-    ensures kept { seed_at search.now.standing.seeds
+    ensures kept { tree_id_at search.now.tree_nodes.tree_ids
         (node_u search.now.graph search.now.arena.blossoms e) ≡ Some result }
 {
     let (u, _, _) = search.graph.edge(e);
@@ -80,11 +80,11 @@ fn tree_seed(search: &Search, e: EdgeId) -> VertexId
 /// closes, and answers its base.
 fn fill_closed(search: &mut Search, e: EdgeId) -> NodeId
     requires sound { IsSound search.old }
-    requires can { CanShrink (state_of search.old) e }
+    requires possible { CanShrink (state_of search.old) e }
     ensures closes { Closes (state_of search.old) e }
     ensures circuit { search.new.circuit.items ≡ closed_by (state_of search.old) e }
     ensures base { result ≡ base_of (state_of search.old) e }
-    ensures rest { search.new ≡ record search.old { circuit = search.new.circuit } }
+    ensures frame { search.new ≡ record search.old { circuit = search.new.circuit } }
     ensures sound { IsSound search.new }
 {
     let (u, v, _) = search.graph.edge(e);
@@ -100,7 +100,7 @@ fn fill_closed(search: &mut Search, e: EdgeId) -> NodeId
 /// the new node.
 fn close_by(search: &mut Search, e: EdgeId) -> NodeId
     requires sound { IsSound search.old }
-    requires can { CanShrink (state_of search.old) e }
+    requires possible { CanShrink (state_of search.old) e }
     ensures closes { Closes (state_of search.old) e }
     ensures state { state_of search.new
         ≡ shrunk_state (state_of search.old)
@@ -108,9 +108,10 @@ fn close_by(search: &mut Search, e: EdgeId) -> NodeId
         (base_of (state_of search.old) e) }
     ensures scanned { search.new.scanned.items
         ≡ newly_outer (state_of search.old) (closed_by (state_of search.old) e) }
-    ensures still { (a : ℕ) → a ≢ result → in_ring (closed_by (state_of search.old) e) a ≡ false
+    ensures outside_unchanged { (a : ℕ) → a ≢ result → in_ring (closed_by (state_of search.old) e) a
+        ≡ false
         → label_at search.new.arena.motions a ≡ label_at search.old.arena.motions a }
-    ensures rest { search.new ≡ record search.old {
+    ensures frame { search.new ≡ record search.old {
       arena = search.new.arena;
       labels = search.new.labels;
       mates = search.new.mates;
@@ -129,28 +130,28 @@ fn close_by(search: &mut Search, e: EdgeId) -> NodeId
 /// node.
 pub(crate) fn shrink_closed(search: &mut Search, e: EdgeId) -> NodeId
     requires sound { IsSound search.old }
-    requires standing { IsStanding search.old }
-    requires can { CanShrink (state_of search.old) e }
+    requires listed { HasTreeNodes search.old }
+    requires possible { CanShrink (state_of search.old) e }
     ensures shrunk { IsShrunk (state_of search.old) (state_of search.new) result }
     ensures circuit { ring_of search.new.arena.blossoms result ≡ closed_by (state_of search.old) e }
     ensures holds_u { outermost search.new.arena.blossoms (edge_of search.old.graph e).u ≡ result }
     ensures holds_v { outermost search.new.arena.blossoms (edge_of search.old.graph e).v ≡ result }
     ensures missed { touches_any search.new.scanned.items (edge_of search.old.graph e) ≡ false }
-    ensures rest { search.new ≡ record search.old {
+    ensures frame { search.new ≡ record search.old {
       arena = search.new.arena;
       labels = search.new.labels;
       mates = search.new.mates;
       circuit = search.new.circuit;
-      standing = search.new.standing;
+      tree_nodes = search.new.tree_nodes;
       scanned = search.new.scanned;
     } }
     ensures sound { IsSound search.new }
-    ensures standing { IsStanding search.new }
+    ensures listed { HasTreeNodes search.new }
     ensures step { IsStep (state_of search.old) (state_of search.new) search.new.scanned.items }
 {
-    let seed = tree_seed(search, e);
+    let tree_id = tree_id_of(search, e);
     let node = close_by(search, e);
-    enlist(search, node, seed);
+    insert_node(search, node, tree_id);
     node
 }
 
@@ -166,10 +167,10 @@ pub fn shrink<L: Ledger>(
     steps: &mut Steps<L>,
 ) -> NodeId
     requires sound { IsSound search.old }
-    requires queued { IsQueued search.old }
-    requires standing { IsStanding search.old }
-    requires same { graph.now ≡ search.old.graph }
-    requires can { CanShrink (state_of search.old) e }
+    requires event_times { IsQueued search.old }
+    requires listed { HasTreeNodes search.old }
+    requires same_graph { graph.now ≡ search.old.graph }
+    requires possible { CanShrink (state_of search.old) e }
 
     // Makes one node of the circuit that an edge closes: the two paths up from its ends, both of
     // which the node holds.
@@ -177,30 +178,30 @@ pub fn shrink<L: Ledger>(
     ensures circuit { ring_of search.new.arena.blossoms result ≡ closed_by (state_of search.old) e }
     ensures holds_u { outermost search.new.arena.blossoms (edge_of graph.now e).u ≡ result }
     ensures holds_v { outermost search.new.arena.blossoms (edge_of graph.now e).v ≡ result }
-    ensures rest { search.new ≡ record search.old {
+    ensures frame { search.new ≡ record search.old {
       arena = search.new.arena;
       labels = search.new.labels;
       mates = search.new.mates;
       circuit = search.new.circuit;
       queue = search.new.queue;
-      standing = search.new.standing;
+      tree_nodes = search.new.tree_nodes;
       scanned = search.new.scanned;
     } }
     ensures sound { IsSound search.new }
-    ensures queued { IsQueued search.new }
+    ensures event_times { IsQueued search.new }
     ensures taken { moment_of search.new.queue (OfEdge e) ≡ None }
-    ensures standing { IsStanding search.new }
+    ensures listed { HasTreeNodes search.new }
     ensures trees { tree_count (state_of search.new) ≡ tree_count (state_of search.old) }
     ensures exposed { exposed_count (state_of search.new) ≡ exposed_count (state_of search.old) }
-    ensures planted { IsPlanted (state_of search.old) → IsPlanted (state_of search.new) }
+    ensures all_rooted { IsPlanted (state_of search.old) → IsPlanted (state_of search.new) }
     ensures falls { measure (state_of search.new) < measure (state_of search.old) }
     ensures inside { (w : ℕ) → is_vertex search.old.graph.vertices w ≡ true
         → is_outside (state_of search.new) w ≡ true → is_outside (state_of search.old) w ≡ true }
     ensures blossoms { outside_among (state_of search.new) search.new.arena.blossoms
         ≤ outside_among (state_of search.old) search.old.arena.blossoms }
-    ensures looks { steps.new + looks_left (state_of search.new)
+    ensures inspections { steps.new + looks_left (state_of search.new)
         ≤ steps.old + 1 + looks_left (state_of search.old) }
-    ensures around { steps.new + outside_ends (state_of search.new)
+    ensures edge_ends { steps.new + outside_ends (state_of search.new)
         ≤ steps.old + 1 + outside_ends (state_of search.old) }
     ensures count { entry_count search.new.queue + steps.old + 2 ≤ entry_count search.old.queue
         + steps.new }

@@ -37,13 +37,13 @@ fn edge_above(search: &Search, node: NodeId) -> EdgeId
 pub(crate) fn push_way(search: &mut Search, from: NodeId, base: NodeId)
     requires sound { IsSound search.old }
     requires outermost { IsOutermost (state_of search.old) from }
-    requires there { holds (path_of (state_of search.old) from) base ≡ true }
+    requires on_path { holds (path_of (state_of search.old) from) base ≡ true }
     requires room { vec_len search.old.circuit
         + length (before (path_of (state_of search.old) from) base)
         ≤ vec_capacity search.old.circuit }
     ensures circuit { search.new.circuit.items ≡ search.old.circuit.items
         ++ links_above (state_of search.old) (before (path_of (state_of search.old) from) base) }
-    ensures rest { search.new ≡ record search.old { circuit = search.new.circuit } }
+    ensures frame { search.new ≡ record search.old { circuit = search.new.circuit } }
     ensures capacity { vec_capacity search.new.circuit ≡ vec_capacity search.old.circuit }
     ensures sound { IsSound search.new }
 {

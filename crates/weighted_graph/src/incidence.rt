@@ -30,7 +30,7 @@ fn ends_of(
     vertices: u32,
     edges: &[Edge],
 ) -> Result<Vec<(VertexId, EdgeId)>, OutOfMemory>
-    requires few { length edges.now < 2 ^ 32 }
+    requires size_limit { length edges.now < 2 ^ 32 }
     requires ends { All (IsEdgeWithin vertices) edges.now }
     ensures size { IfOk result (λ entries. length entries.items ≤ 2 * length edges.now) }
     ensures within { IfOk result (λ entries. All (λ e. e.0 ≤ vertices) entries.items) }
@@ -67,7 +67,7 @@ impl Incidence {
 
     /// The index of a graph with this many vertices and these edges.
     pub fn of(alloc: Global, vertices: u32, edges: &[Edge]) -> Result<Self, OutOfMemory>
-        requires few { length edges.now < 2 ^ 32 }
+        requires size_limit { length edges.now < 2 ^ 32 }
         requires few_vertices { vertices < 2 ^ 32 }
         requires ends { All (IsEdgeWithin vertices) edges.now }
         ensures { IfOk result (IsIndex (record { vertices = vertices; edges = edges.now })) }

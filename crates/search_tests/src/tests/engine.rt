@@ -12,7 +12,7 @@ use weighted_graph::Graph;
 /// Whether the edges at the vertices are these.
 fn has_mates(engine: &Engine, graph: &Graph, mates: &[u32]) -> bool
     requires matched { engine.now.outcome ≡ Some Matched }
-    requires same { engine.now.graph ≡ graph.now }
+    requires same_graph { engine.now.graph ≡ graph.now }
 {
     if mates.len() != graph.vertices() as usize {
         return false;
@@ -28,7 +28,7 @@ fn has_mates(engine: &Engine, graph: &Graph, mates: &[u32]) -> bool
 /// Whether the barrier has the vertices that are marked with 1, and no other.
 fn has_barrier(engine: &Engine, graph: &Graph, marks: &[u32]) -> bool
     requires barrier { engine.now.outcome ≡ Some Barrier }
-    requires same { engine.now.graph ≡ graph.now }
+    requires same_graph { engine.now.graph ≡ graph.now }
 {
     if marks.len() != graph.vertices() as usize {
         return false;

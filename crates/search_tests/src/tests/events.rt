@@ -4,7 +4,7 @@ ghost use Rattle.alt_forest.specs.Searches.{IsSound, state_of};
 ghost use Rattle.alt_forest.specs.Counts.{IsPlanted};
 ghost use Rattle.alt_forest.specs.Entries.{IsQueued};
 ghost use Rattle.alt_forest.specs.Events.{CanAugment};
-ghost use Rattle.alt_forest.specs.Standing.{IsStanding};
+ghost use Rattle.alt_forest.specs.TreeNodes.{HasTreeNodes};
 ghost use Rattle.dual_change.specs.Changes.{applied, IsWithin, IsPossible};
 
 use super::looks::free_node;
@@ -28,16 +28,16 @@ fn change<L: Ledger>(
     steps: &mut Steps<L>,
 ) -> Event
     requires sound { IsSound search.old }
-    requires queued { IsQueued search.old }
-    requires standing { IsStanding search.old }
-    requires planted { IsPlanted (state_of search.old) }
+    requires event_times { IsQueued search.old }
+    requires listed { HasTreeNodes search.old }
+    requires all_rooted { IsPlanted (state_of search.old) }
     requires exposed { (a : ℕ) × IsExposed (state_of search.old) a }
     requires within { IsWithin (state_of search.old) d }
     requires leads { IsPossible (applied (state_of search.old) d) event }
     ensures sound { IsSound search.new }
-    ensures queued { IsQueued search.new }
-    ensures standing { IsStanding search.new }
-    ensures planted { IsPlanted (state_of search.new) }
+    ensures event_times { IsQueued search.new }
+    ensures listed { HasTreeNodes search.new }
+    ensures all_rooted { IsPlanted (state_of search.new) }
     ensures graph { search.new.graph ≡ search.old.graph }
     ensures possible { IsPossible (state_of search.new) result }
 {
@@ -56,16 +56,16 @@ pub fn reach<L: Ledger>(
     steps: &mut Steps<L>,
 ) -> Option<Event>
     requires sound { IsSound search.old }
-    requires queued { IsQueued search.old }
-    requires standing { IsStanding search.old }
-    requires same { graph.now ≡ search.old.graph }
-    requires planted { IsPlanted (state_of search.old) }
+    requires event_times { IsQueued search.old }
+    requires listed { HasTreeNodes search.old }
+    requires same_graph { graph.now ≡ search.old.graph }
+    requires all_rooted { IsPlanted (state_of search.old) }
     requires exposed { (a : ℕ) × IsExposed (state_of search.old) a }
     ensures sound { IsSound search.new }
-    ensures queued { IsQueued search.new }
-    ensures standing { IsStanding search.new }
-    ensures same { graph.now ≡ search.new.graph }
-    ensures planted { IsPlanted (state_of search.new) }
+    ensures event_times { IsQueued search.new }
+    ensures listed { HasTreeNodes search.new }
+    ensures same_graph { graph.now ≡ search.new.graph }
+    ensures all_rooted { IsPlanted (state_of search.new) }
     ensures possible { IfSome result (IsPossible (state_of search.new)) }
 {
     match find(search, graph, steps) {
@@ -85,14 +85,14 @@ pub fn plant_all<L: Ledger>(
     steps: &mut Steps<L>,
 )
     requires sound { IsSound search.old }
-    requires queued { IsQueued search.old }
-    requires standing { IsStanding search.old }
-    requires same { graph.now ≡ search.old.graph }
+    requires event_times { IsQueued search.old }
+    requires listed { HasTreeNodes search.old }
+    requires same_graph { graph.now ≡ search.old.graph }
     ensures sound { IsSound search.new }
-    ensures queued { IsQueued search.new }
-    ensures standing { IsStanding search.new }
-    ensures same { graph.now ≡ search.new.graph }
-    ensures planted { IsPlanted (state_of search.new) }
+    ensures event_times { IsQueued search.new }
+    ensures listed { HasTreeNodes search.new }
+    ensures same_graph { graph.now ≡ search.new.graph }
+    ensures all_rooted { IsPlanted (state_of search.new) }
 {
     for _ in 0..search.arena.node_limit() {
         let Some(root) = free_node(search) else {
@@ -114,16 +114,16 @@ fn augment<L: Ledger>(
     steps: &mut Steps<L>,
 )
     requires sound { IsSound search.old }
-    requires queued { IsQueued search.old }
-    requires standing { IsStanding search.old }
-    requires same { graph.now ≡ search.old.graph }
-    requires planted { IsPlanted (state_of search.old) }
-    requires can { CanAugment (state_of search.old) e }
+    requires event_times { IsQueued search.old }
+    requires listed { HasTreeNodes search.old }
+    requires same_graph { graph.now ≡ search.old.graph }
+    requires all_rooted { IsPlanted (state_of search.old) }
+    requires possible { CanAugment (state_of search.old) e }
     ensures sound { IsSound search.new }
-    ensures queued { IsQueued search.new }
-    ensures standing { IsStanding search.new }
-    ensures same { graph.now ≡ search.new.graph }
-    ensures planted { IsPlanted (state_of search.new) }
+    ensures event_times { IsQueued search.new }
+    ensures listed { HasTreeNodes search.new }
+    ensures same_graph { graph.now ≡ search.new.graph }
+    ensures all_rooted { IsPlanted (state_of search.new) }
 {
     if trees_stay {
         join(search, graph, e, steps);
@@ -144,16 +144,16 @@ pub fn perform<L: Ledger>(
     steps: &mut Steps<L>,
 )
     requires sound { IsSound search.old }
-    requires queued { IsQueued search.old }
-    requires standing { IsStanding search.old }
-    requires same { graph.now ≡ search.old.graph }
-    requires planted { IsPlanted (state_of search.old) }
+    requires event_times { IsQueued search.old }
+    requires listed { HasTreeNodes search.old }
+    requires same_graph { graph.now ≡ search.old.graph }
+    requires all_rooted { IsPlanted (state_of search.old) }
     requires possible { IsPossible (state_of search.old) event }
     ensures sound { IsSound search.new }
-    ensures queued { IsQueued search.new }
-    ensures standing { IsStanding search.new }
-    ensures same { graph.now ≡ search.new.graph }
-    ensures planted { IsPlanted (state_of search.new) }
+    ensures event_times { IsQueued search.new }
+    ensures listed { HasTreeNodes search.new }
+    ensures same_graph { graph.now ≡ search.new.graph }
+    ensures all_rooted { IsPlanted (state_of search.new) }
 {
     match event {
         Event::Augment(e) => augment(rt, search, graph, e, trees_stay, steps),

@@ -3,7 +3,7 @@ ghost use Rattle.blossom_arena.specs.declared.label.Label.TheVariants.{Out};
 ghost use Rattle.alt_forest.specs.Searches.{HasShape, IsSound, state_of, label_at};
 ghost use Rattle.alt_forest.specs.State.{IsOutermost, IsExposed};
 ghost use Rattle.alt_forest.specs.Counts.{IsMatched, IsPlanted};
-ghost use Rattle.alt_forest.specs.Standing.{IsStanding};
+ghost use Rattle.alt_forest.specs.TreeNodes.{HasTreeNodes};
 
 use alt_forest::{Label, Search};
 use blossom_arena::NodeId;
@@ -79,7 +79,7 @@ pub fn exposed_node(search: &Search) -> Option<NodeId>
 /// show.
 fn has_root(search: &Search, node: NodeId) -> bool
     requires sound { IsSound search.now }
-    requires standing { IsStanding search.now }
+    requires listed { HasTreeNodes search.now }
 {
     if !is_outermost(search, node) {
         return true;
@@ -93,7 +93,7 @@ fn has_root(search: &Search, node: NodeId) -> bool
 /// Whether the root of each node in a tree is the last one on its way there.
 pub fn have_roots(search: &Search) -> bool
     requires sound { IsSound search.now }
-    requires standing { IsStanding search.now }
+    requires listed { HasTreeNodes search.now }
 {
     for place in 0..search.arena.node_limit() {
         if !has_root(search, NodeId::new(place + 1)) {

@@ -3,7 +3,7 @@ ghost use Rattle.alt_forest.specs.State.{IsExposed};
 ghost use Rattle.alt_forest.specs.Searches.{IsSound, state_of};
 ghost use Rattle.alt_forest.specs.Counts.{IsMatched, IsPlanted};
 ghost use Rattle.alt_forest.specs.Entries.{IsQueued};
-ghost use Rattle.alt_forest.specs.Standing.{IsStanding};
+ghost use Rattle.alt_forest.specs.TreeNodes.{HasTreeNodes};
 
 use super::events::{perform, plant_all, reach};
 use super::instances::can_start;
@@ -32,16 +32,16 @@ fn advance<L: Ledger>(
     steps: &mut Steps<L>,
 ) -> bool
     requires sound { IsSound search.old }
-    requires queued { IsQueued search.old }
-    requires standing { IsStanding search.old }
-    requires same { graph.now ≡ search.old.graph }
-    requires planted { IsPlanted (state_of search.old) }
+    requires event_times { IsQueued search.old }
+    requires listed { HasTreeNodes search.old }
+    requires same_graph { graph.now ≡ search.old.graph }
+    requires all_rooted { IsPlanted (state_of search.old) }
     requires exposed { (a : ℕ) × IsExposed (state_of search.old) a }
     ensures sound { IsSound search.new }
-    ensures queued { IsQueued search.new }
-    ensures standing { IsStanding search.new }
-    ensures same { graph.now ≡ search.new.graph }
-    ensures planted { IsPlanted (state_of search.new) }
+    ensures event_times { IsQueued search.new }
+    ensures listed { HasTreeNodes search.new }
+    ensures same_graph { graph.now ≡ search.new.graph }
+    ensures all_rooted { IsPlanted (state_of search.new) }
 {
     let Some(event) = reach(rt, search, graph, steps) else {
         return false;
@@ -65,9 +65,9 @@ fn pass<L: Ledger>(
     steps: &mut Steps<L>,
 ) -> bool
     requires sound { IsSound search.old }
-    requires queued { IsQueued search.old }
-    requires standing { IsStanding search.old }
-    requires same { graph.now ≡ search.old.graph }
+    requires event_times { IsQueued search.old }
+    requires listed { HasTreeNodes search.old }
+    requires same_graph { graph.now ≡ search.old.graph }
     ensures sound { IsSound search.new }
     ensures matched { result ≡ true → IsMatched (state_of search.new) }
 {

@@ -14,11 +14,11 @@ use weighted_graph::Graph;
 
 /// A phase, if some node is exposed; whether it has augmented the matching.
 fn augments<L: Ledger>(search: &mut Search, graph: &Graph, steps: &mut Steps<L>) -> bool
-    requires ready { IsReady search.old }
-    requires same { graph.now ≡ search.old.graph }
-    ensures ready { result ≡ true → IsReady search.new }
+    requires well_formed { IsReady search.old }
+    requires same_graph { graph.now ≡ search.old.graph }
+    ensures well_formed { result ≡ true → IsReady search.new }
     ensures sound { IsSound search.new }
-    ensures same { graph.now ≡ search.new.graph }
+    ensures same_graph { graph.now ≡ search.new.graph }
 {
     let Some(_) = exposed_node(search) else {
         return false;
@@ -31,8 +31,8 @@ fn augments<L: Ledger>(search: &mut Search, graph: &Graph, steps: &mut Steps<L>)
 
 /// How many phases augment the matching, one after the other.
 fn augment_count<L: Ledger>(search: &mut Search, graph: &Graph, steps: &mut Steps<L>) -> u32
-    requires ready { IsReady search.old }
-    requires same { graph.now ≡ search.old.graph }
+    requires well_formed { IsReady search.old }
+    requires same_graph { graph.now ≡ search.old.graph }
     ensures sound { IsSound search.new }
 {
     for count in 0..graph.vertices() {

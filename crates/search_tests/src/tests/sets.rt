@@ -13,7 +13,7 @@ use weighted_graph::Graph;
 /// marked with 1.
 fn has_sets(engine: &Engine, graph: &Graph, marks: &[u32]) -> bool
     requires barrier { engine.now.outcome ≡ Some Barrier }
-    requires same { engine.now.graph ≡ graph.now }
+    requires same_graph { engine.now.graph ≡ graph.now }
 {
     if marks.len() != graph.vertices() as usize {
         return false;
@@ -33,7 +33,7 @@ fn has_sets(engine: &Engine, graph: &Graph, marks: &[u32]) -> bool
 /// Whether this is a vertex that the matching misses.
 fn is_missed(engine: &Engine, graph: &Graph, v: u32) -> bool
     requires barrier { engine.now.outcome ≡ Some Barrier }
-    requires same { engine.now.graph ≡ graph.now }
+    requires same_graph { engine.now.graph ≡ graph.now }
 {
     if v < 1 || graph.vertices() < v {
         return false;
@@ -44,7 +44,7 @@ fn is_missed(engine: &Engine, graph: &Graph, v: u32) -> bool
 /// Whether the matching misses so many vertices.
 fn misses(engine: &Engine, graph: &Graph, missed: u32) -> bool
     requires barrier { engine.now.outcome ≡ Some Barrier }
-    requires same { engine.now.graph ≡ graph.now }
+    requires same_graph { engine.now.graph ≡ graph.now }
 {
     let mut left = missed;
     for place in 0..graph.vertices() {
@@ -81,7 +81,7 @@ fn end_of(graph: &Graph, v: u32, path: &[EdgeId]) -> u32 {
 /// Whether an even path leads from each outer vertex to one that the matching misses.
 fn lead_to_missed(engine: &Engine, graph: &Graph) -> Result<bool, OutOfMemory>
     requires barrier { engine.now.outcome ≡ Some Barrier }
-    requires same { engine.now.graph ≡ graph.now }
+    requires same_graph { engine.now.graph ≡ graph.now }
 {
     for place in 0..graph.vertices() {
         let v = VertexId::new(place + 1);
@@ -99,7 +99,7 @@ fn lead_to_missed(engine: &Engine, graph: &Graph) -> Result<bool, OutOfMemory>
 /// of the outer ones.
 fn has_left(engine: &Engine, graph: &Graph, marks: &[u32], missed: u32) -> Result<bool, OutOfMemory>
     requires barrier { engine.now.outcome ≡ Some Barrier }
-    requires same { engine.now.graph ≡ graph.now }
+    requires same_graph { engine.now.graph ≡ graph.now }
 {
     if !has_sets(engine, graph, marks) {
         return Ok(false);

@@ -3,7 +3,7 @@ ghost use Rattle.mb_problem.specs.Measured.{HasPlaces};
 
 use doc_format::{CountLine, DocStatus, Document, MemberLine};
 use mb_base::{OutOfMemory, Sequence};
-use mb_problem::{Answer, Exclusion, Instance, Kind, feasible, weight};
+use mb_problem::{Answer, Instance, Kind, Obstruction, feasible, weight};
 use std::alloc::Global;
 
 /// Writes the count of a line at the place of its edge, if both are in range.
@@ -63,11 +63,11 @@ fn states_weight(
 
 /// Whether a document has the line that excludes answers of the kind.
 fn excludes(kind: Kind, document: &Document) -> bool {
-    match kind.exclusion() {
-        Exclusion::Barrier => document.barrier.is_some(),
-        Exclusion::OddPart => document.odd.is_some(),
-        Exclusion::SplitPart => document.split.is_some(),
-        Exclusion::Never => false,
+    match kind.obstruction() {
+        Obstruction::Barrier => document.barrier.is_some(),
+        Obstruction::OddPart => document.odd.is_some(),
+        Obstruction::SplitPart => document.split.is_some(),
+        Obstruction::Never => false,
     }
 }
 

@@ -45,7 +45,7 @@ pub fn document_of<L: Ledger>(
     kind: Kind,
     blank: Blank,
 ) -> Result<Document, OutOfMemory>
-    requires ready { IsReady kind instance.now }
+    requires well_formed { IsReady kind instance.now }
     requires name { blank.name ≡ L.name }
     requires parts { blank.parts ≡ L.parts }
     requires some { 0 < blank.parts }

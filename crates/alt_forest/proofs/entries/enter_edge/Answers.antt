@@ -1,10 +1,10 @@
 use Rattle.graph_theory.proofs.Common.{◌≡◌, ◌∙◌, ℕ, ℤ, true, Option, Some, refl, sym, ap, subst, arith, rules, to_z, of_z, w128}
 use Rattle.blossom_arena.specs.Family.{is_vertex}
-use Rattle.edge_queue.specs.declared.item.Item.TheVariants.{Edge}
-use Rattle.edge_queue.specs.Moments.{Moments, moment_of}
+use Rattle.search_heap.specs.declared.item.Item.TheVariants.{Edge}
+use Rattle.search_heap.specs.Moments.{Moments, moment_of}
 use Rattle.alt_forest.specs.declared.search.Search.{Search}
-use Rattle.search_lists.specs.declared.incident_edges.IncidentEdge.{IncidentEdge}
-use Rattle.search_lists.specs.IncidentEdges.{IsIncidentEdge}
+use Rattle.search_tables.specs.declared.incident_edges.IncidentEdge.{IncidentEdge}
+use Rattle.search_tables.specs.IncidentEdges.{IsIncidentEdge}
 use Rattle.alt_forest.specs.Searches.{HasShape, IsSound, state_of}
 use Rattle.alt_forest.specs.Entries.{NeedsMoment, entry_count}
 use Rattle.alt_forest.proofs.Leads.{leads_vertex}
@@ -24,7 +24,7 @@ returns-in-Some c =
     let item = edge_item s e c.requires.sound.shape c.requires.incident.number in
     let back : to_z w128 (of_z w128 c.in-Some.moment) ≡ c.in-Some.moment = search rules in
     record {
-      rest = refl;
+      frame = refl;
       sound = subst (λ (q : Moments). IsSound (record s { queue = q })) (sym c.set_moment.ensures) (sound_set s (Edge e) _ c.requires.sound);
       entered = subst (NeedsMoment (state_of s) s.clock e) (sym (ap (λ (q : Moments). moment_of q (Edge e)) c.set_moment.ensures ∙ edge_set s.queue e _ item
           ∙ ap (λ (x : ℤ). let o : Option ℤ = Some x in o) back)) c.in-Some.ensures.moment;

@@ -4,11 +4,11 @@ use Rattle.blossom_arena.specs.declared.label.Label.{Label}
 use Rattle.blossom_arena.specs.declared.label.Label.TheVariants.{Outer, Inner, Out}
 use Rattle.alt_forest.specs.declared.search.Search.{Search}
 use Rattle.alt_forest.specs.declared.entries.Near.{Near}
-use Rattle.search_lists.specs.declared.incident_edges.IncidentEdge.{IncidentEdge}
+use Rattle.search_tables.specs.declared.incident_edges.IncidentEdge.{IncidentEdge}
 use Rattle.alt_forest.specs.Ends.{IsNear}
 use Rattle.alt_forest.specs.State.{Joins, slack_of}
 use Rattle.alt_forest.specs.Entries.{NeedsMoment}
-use Rattle.search_lists.specs.IncidentEdges.{IsIncidentEdge}
+use Rattle.search_tables.specs.IncidentEdges.{IsIncidentEdge}
 use Rattle.alt_forest.specs.Searches.{state_of, label_at}
 use Rattle.alt_forest.proofs.Needs.{MomentBy, needs_between, needs_none_within}
 use Rattle.alt_forest.proofs.Leads.{leads_joins}

@@ -8,5 +8,5 @@ loop-nodes-preserved c =
 
 pub returns-clause-goes_on : goal.returns-clause-goes_on
 returns-clause-goes_on c =
-    counted_next c.next-2.result c.args.path c.loop-nodes.rest c.next-2.new.self c.loop-nodes.nodes c.args.most c.next-2.ensures.steps c.loop-nodes.invariant.rest
+    counted_next c.next-2.result c.args.path c.loop-nodes.rest c.next-2.new.self c.loop-nodes.nodes c.args.most c.next-2.ensures.steps c.loop-nodes.invariant.left
     (omega (arith, c.loop-nodes-test.false, c.loop-nodes.auto.nodes-end))

@@ -7,4 +7,4 @@ use Rattle.alt_forest.proofs.motions.set_motion.Goals as goal
 pub returns-clause-motions : goal.returns-clause-motions
 returns-clause-motions c =
     ap (λ (f : Family). label_at f.motions) c.move_as.ensures.family
-    ∙ put_motion c.args.arena.now.motions c.args.node c.args.label (motion_place c.args.arena.now c.args.node c.requires.good c.requires.outermost)
+    ∙ put_motion c.args.arena.now.motions c.args.node c.args.label (motion_place c.args.arena.now c.args.node c.requires.is_family c.requires.outermost)

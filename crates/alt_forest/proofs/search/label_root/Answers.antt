@@ -18,7 +18,7 @@ returns c =
     let labels = sym c.set_label.ensures.labels in
     record {
       labels = c.set_label.ensures.labels;
-      rest = refl;
+      frame = refl;
       roots = λ a. subst (λ (l : ℕ → Label). IsRoot (with_labels s l) a ↔ (IsRoot s a ⊎ (a ≡ v))) labels
           (planted_roots s h.depth v c.requires.exposed.1 c.requires.out c.requires.exposed.0 a);
       trees = subst (λ (l : ℕ → Label). tree_count (with_labels s l) ≡ tree_count s + 1) labels

@@ -11,7 +11,8 @@ use Rattle.alt_forest.proofs.slack.duals_across.Goals.{After-outermost, After-du
 use Rattle.alt_forest.proofs.slack.duals_across.Goals as goal
 
 ends : (c : After-outermost) → IsEnds c.args.arena.now.vertex_count c.args.arena.now.blossoms c.args.edge.now.u c.args.edge.now.v
-ends c = ends_of c.args.arena.now.vertex_count c.args.arena.now.blossoms c.args.edge.now c.outermost.ensures.good.nested c.outermost.ensures.good.few c.requires.ends c.requires.plain
+ends c = ends_of c.args.arena.now.vertex_count c.args.arena.now.blossoms c.args.edge.now c.outermost.ensures.is_family.nested c.outermost.ensures.is_family.size_limit c.requires.ends
+    c.requires.loopless
 
 -- so many duals are felt
 within : (c : After-outermost) → (neg_ℤ (NUMBER_LIMIT *ℤ pos GRAPH_VERTEX_LIMIT) ≤ℤ duals_across (dual_at c.args.arena.now.duals) c.args.arena.now.blossoms c.args.edge.now)
@@ -19,15 +20,15 @@ within : (c : After-outermost) → (neg_ℤ (NUMBER_LIMIT *ℤ pos GRAPH_VERTEX_
 within c =
     let e : Edge = c.args.edge.now in let bs : List Blossom = c.args.arena.now.blossoms in
     let parts = across_split (dual_at c.args.arena.now.duals) bs e in
-    let left = total_within c.args.arena.now.duals (holders bs e.u e.v) c.outermost.ensures.good.duals.in_range in
-    let right = total_within c.args.arena.now.duals (holders bs e.v e.u) c.outermost.ensures.good.duals.in_range in
+    let left = total_within c.args.arena.now.duals (holders bs e.u e.v) c.outermost.ensures.is_family.duals.in_range in
+    let right = total_within c.args.arena.now.duals (holders bs e.v e.u) c.outermost.ensures.is_family.duals.in_range in
     let few = holders_few c.args.arena.now.vertex_count bs e.u e.v (ends c) in
     (omega (arith, ints, parts, left.0, right.0, few), omega (arith, ints, parts, left.1, right.1, few))
 
 sum_is : (c : After-dual_sum-2) → c.dual_sum.result +ℤ c.dual_sum-2.result ≡ duals_across (dual_at c.args.arena.now.duals) c.args.arena.now.blossoms c.args.edge.now
 sum_is c =
     let e : Edge = c.args.edge.now in let bs : List Blossom = c.args.arena.now.blossoms in
-    let h = ends_of c.args.arena.now.vertex_count bs e c.outermost.ensures.good.nested c.outermost.ensures.good.few c.requires.ends c.requires.plain in
+    let h = ends_of c.args.arena.now.vertex_count bs e c.outermost.ensures.is_family.nested c.outermost.ensures.is_family.size_limit c.requires.ends c.requires.loopless in
     let ne : outermost bs e.u ≢ outermost bs e.v =
     λ p. c.if-number.false (c.number.ensures ∙ c.outermost.ensures.node ∙ p ∙ sym c.outermost-2.ensures.node ∙ sym c.number-2.ensures) in
     ap₂ ◌+ℤ◌ c.dual_sum.ensures.dual_sum c.dual_sum-2.ensures.dual_sum

@@ -13,13 +13,15 @@ first_total n bs u v k y xs sum h is size chain = is ∙ ap₂ (λ (j : ℕ) (zs
 
 pub total-requires-clause-nodes : goal.total-requires-clause-nodes
 total-requires-clause-nodes c =
-    let h = ends_of c.args.arena.now.vertex_count c.args.arena.now.blossoms c.args.edge.now c.chain.ensures.good.nested c.chain.ensures.good.few c.requires.ends c.requires.plain in
+    let h = ends_of c.args.arena.now.vertex_count c.args.arena.now.blossoms c.args.edge.now c.chain.ensures.is_family.nested c.chain.ensures.is_family.size_limit c.requires.ends
+    c.requires.loopless in
     subst (AllByRecursion (λ a. is_node c.args.arena.now.vertex_count c.args.arena.now.blossoms a ≡ true)) (sym c.chain.ensures.chain)
     (chain_nodes c.args.arena.now.vertex_count c.args.arena.now.blossoms c.args.edge.now.u h.u_is)
 
 pub total-requires-2-clause-nodes : goal.total-requires-2-clause-nodes
 total-requires-2-clause-nodes c =
-    let h = ends_of c.args.arena.now.vertex_count c.args.arena.now.blossoms c.args.edge.now c.chain.ensures.good.nested c.chain.ensures.good.few c.requires.ends c.requires.plain in
+    let h = ends_of c.args.arena.now.vertex_count c.args.arena.now.blossoms c.args.edge.now c.chain.ensures.is_family.nested c.chain.ensures.is_family.size_limit c.requires.ends
+    c.requires.loopless in
     subst (AllByRecursion (λ a. is_node c.args.arena.now.vertex_count c.args.arena.now.blossoms a ≡ true)) (sym c.chain-2.ensures.chain)
     (chain_nodes c.args.arena.now.vertex_count c.args.arena.now.blossoms c.args.edge.now.v h.v_is)
 
@@ -28,7 +30,7 @@ returns-clause-duals_across c =
     let back : to_z w128 (of_z w128 (to_z w128 (of_z w128 c.total.result) +ℤ to_z w128 (of_z w128 c.total-2.result))) ≡ c.total.result +ℤ c.total-2.result = search rules in
     let e : Edge = c.args.edge.now in let bs : List Blossom = c.args.arena.now.blossoms in
     let y = dual_at c.args.arena.now.duals in
-    let h = ends_of c.args.arena.now.vertex_count bs e c.chain.ensures.good.nested c.chain.ensures.good.few c.requires.ends c.requires.plain in
+    let h = ends_of c.args.arena.now.vertex_count bs e c.chain.ensures.is_family.nested c.chain.ensures.is_family.size_limit c.requires.ends c.requires.loopless in
     let left = first_total _ bs e.u e.v _ y _ _ h c.total.ensures.total c.holder_counts-u.ensures.u c.chain.ensures.chain in
     let right = first_total _ bs e.v e.u _ y _ _ (ends_turned _ bs e.u e.v h) c.total-2.ensures.total c.holder_counts-u.ensures.v c.chain-2.ensures.chain in
     back ∙ ap₂ (λ (p q : ℤ). p +ℤ q) left right ∙ sym (across_split y bs e)

@@ -6,7 +6,7 @@ abbrev pub invariant-loop-number : goal.invariant-loop-number
 invariant-loop-number l = record {
   count : l.arena.vertex_count ≡ l.fn.arena.vertex_count;
   blossoms : l.arena.blossoms ≡ [];
-  good : IsFamily l.arena;
+  is_family : IsFamily l.arena;
   done : (v : ℕ) → 1 ≤ v → v ≤ l.number → dual_at l.arena.duals v ≡ l.start;
-  rest : (v : ℕ) → l.number < v → dual_at l.arena.duals v ≡ pos 0;
+  frame : (v : ℕ) → l.number < v → dual_at l.arena.duals v ≡ pos 0;
 }

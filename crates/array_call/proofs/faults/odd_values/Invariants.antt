@@ -5,5 +5,5 @@ use Rattle.array_call.proofs.faults.odd_values.Given as goal
 abbrev pub invariant-loop-k : goal.invariant-loop-k
 invariant-loop-k l = record {
   count : l.count ≡ sum_to (λ k. value_at l.kind (arrays_of l.arrays) k % 2) l.k;
-  small : l.count ≤ l.k;
+  value_limit : l.count ≤ l.k;
 }

@@ -18,7 +18,7 @@ pub returns-clause-instance : goal.returns-clause-instance
 returns-clause-instance c =
     c.from_parts.ensures ∙ rw c.in_ok-edges.ensures.edges (rw c.in_ok-values.ensures (rw c.in_ok-lows.ensures (rw c.in_ok-highs.ensures refl)))
 
-pub returns-clause-ready : goal.returns-clause-ready
-returns-clause-ready c =
+pub returns-clause-well_formed : goal.returns-clause-well_formed
+returns-clause-well_formed c =
     let a : Arrays = arrays_of c.args.arrays.now in
     subst (IsReady c.args.kind) (sym (returns-clause-instance c)) (ready c.args.kind a (faultless c.args.kind a c.requires.faultless).needs)

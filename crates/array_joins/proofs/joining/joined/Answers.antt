@@ -3,8 +3,8 @@ use Rattle.mb_problem.specs.declared.answer.Parity.TheVariants.{Values}
 use Rattle.array_joins.proofs.Leasts.{join-few}
 use Rattle.array_joins.proofs.joining.joined.Goals as goal
 
-pub weight_of-weight-requires-clause-few : goal.weight_of-weight-requires-clause-few
-weight_of-weight-requires-clause-few c =
+pub weight_of-weight-requires-clause-size_limit : goal.weight_of-weight-requires-clause-size_limit
+weight_of-weight-requires-clause-size_limit c =
     let i = c.args.instance.now in
     let edges : List ℕ = c.args.join.edges in
     let few : length edges ≤ length i.edges = join-few i (odd_at Values i) edges c.requires.least.join in

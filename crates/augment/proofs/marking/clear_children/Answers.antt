@@ -16,7 +16,7 @@ loop-number-preserved c =
 
 pub returns-clause-within : goal.returns-clause-within
 returns-clause-within c a child =
-    let good = c.node_limit-number-end.ensures.good in
+    let good = c.node_limit-number-end.ensures.is_family in
     let r = node_range c.args.arena.now.vertex_count c.args.arena.now.blossoms a good.nested (child_is_node c.args.arena.now.vertex_count c.args.arena.now.blossoms a good.nested child) in
     let high = r.1 in let limit = c.node_limit-number-end.ensures.limit in
     c.loop-number.invariant.within a child r.0 (omega (arith, high, limit, c.loop-number-test.false))

@@ -10,7 +10,7 @@ loop-holder-init c =
     record {
       mates = ap (λ cs. marked (edge_in c.args.mates.now.items) (up_to cs c.args.stop) c.args.e) is;
       each = subst (AllByRecursion (λ x. x < vec_len c.args.mates.now)) (sym is)
-          (chain_places c.args.arena.now.vertex_count (vec_len c.args.mates.now) c.args.arena.now.blossoms c.args.v e.good.nested c.requires.vertex c.requires.places);
+          (chain_places c.args.arena.now.vertex_count (vec_len c.args.mates.now) c.args.arena.now.blossoms c.args.v e.is_family.nested c.requires.vertex c.requires.places);
       len = refl;
     }
 

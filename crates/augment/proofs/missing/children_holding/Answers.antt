@@ -15,7 +15,7 @@ loop-holder-init c =
       noted = λ a. ap (λ cs. noted (λ x. slice_index table x) 0 cs a) is
           ∙ noted_same (λ x. slice_index table x) (λ x. 0) 0 (chain_of f.blossoms c.args.v) (λ x. ap (λ xs. slice_index xs x) fresh ∙ zeros n x) a;
       each = subst (AllByRecursion (λ x. x < vec_len c.in_ok-table.table)) (sym is)
-          (chain_places f.vertex_count (vec_len c.in_ok-table.table) f.blossoms c.args.v e.good.nested c.requires.vertex low);
+          (chain_places f.vertex_count (vec_len c.in_ok-table.table) f.blossoms c.args.v e.is_family.nested c.requires.vertex low);
     }
 
 pub loop-holder-preserved : goal.loop-holder-preserved
@@ -32,6 +32,6 @@ loop-holder-preserved c =
 
 pub returns : goal.returns
 returns c =
-    let f = c.args.arena.now in let good = c.chain-holder-items.ensures.good in
+    let f = c.args.arena.now in let good = c.chain-holder-items.ensures.is_family in
     let leads = noted_leads f.vertex_count f.blossoms c.args.v good.nested c.requires.vertex in
     λ b k. ap (λ cs. noted (λ x. slice_index c.loop-holder.table.items x) c.loop-holder.below cs b) (sym c.in-None.ensures.steps.0) ∙ c.loop-holder.invariant.noted b ∙ leads b k

@@ -12,13 +12,13 @@ uproot_in-requires-clause-is c =
     let s : Search = c.args.search.now in let nested = nested_of s c.requires.sound.shape in
     subst (IsOutermost (state_of s)) (sym c.outermost.ensures.node) (outermost_has s.graph.vertices s.arena.blossoms c.args.v nested c.requires.vertex).0
 
-pub mark_mates-requires-clause-can : goal.mark_mates-requires-clause-can
-mark_mates-requires-clause-can c =
+pub mark_mates-requires-clause-possible : goal.mark_mates-requires-clause-possible
+mark_mates-requires-clause-possible c =
     can_mark c.args.search.now c.requires.sound (edge_in c.uproot_in.new.mates.items) c.uproot_in.ensures.uprooted.mates
     (edge_in c.clear_children.new.mates.items) c.clear_children.ensures.outermost c.clear_children.ensures.within
 
-pub open_all-requires-clause-can : goal.open_all-requires-clause-can
-open_all-requires-clause-can c =
+pub open_all-requires-clause-possible : goal.open_all-requires-clause-possible
+open_all-requires-clause-possible c =
     can_unpack c.args.search.now c.requires.sound (edge_in c.uproot_in.new.mates.items) c.uproot_in.ensures.uprooted.mates (edge_in c.mark_mates.new.mates.items)
     (λ a free. c.mark_mates.ensures.outermost a free ∙ c.clear_children.ensures.outermost a free) c.mark_mates.ensures.bare c.mark_mates.ensures.spread
 

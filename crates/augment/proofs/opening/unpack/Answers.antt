@@ -2,12 +2,12 @@ use Rattle.alt_forest.proofs.Common.{◌≡◌, ◌∙◌, ℕ, false, refl, sli
 use Rattle.augment.proofs.Finished.{can_mark, can_unpack, are_vertex_mates, is_matching, outer_kept, each_vertex, is_perfect, each_tight, each_left, misses_each, still_sound}
 use Rattle.augment.proofs.opening.unpack.Goals as goal
 
-pub mark_mates-requires-clause-can : goal.mark_mates-requires-clause-can
-mark_mates-requires-clause-can c = can_mark c.args.search.now c.requires.sound (edge_in c.args.search.now.mates.items) c.requires.sound.state.mates
+pub mark_mates-requires-clause-possible : goal.mark_mates-requires-clause-possible
+mark_mates-requires-clause-possible c = can_mark c.args.search.now c.requires.sound (edge_in c.args.search.now.mates.items) c.requires.sound.state.mates
     (edge_in c.clear_children.new.mates.items) c.clear_children.ensures.outermost c.clear_children.ensures.within
 
-pub open_all-requires-clause-can : goal.open_all-requires-clause-can
-open_all-requires-clause-can c =
+pub open_all-requires-clause-possible : goal.open_all-requires-clause-possible
+open_all-requires-clause-possible c =
     can_unpack c.args.search.now c.requires.sound (edge_in c.args.search.now.mates.items) c.requires.sound.state.mates (edge_in c.mark_mates.new.mates.items)
     (λ a free. c.mark_mates.ensures.outermost a free ∙ c.clear_children.ensures.outermost a free) c.mark_mates.ensures.bare c.mark_mates.ensures.spread
 
@@ -30,5 +30,5 @@ returns c =
       leaves = each_left s is marked final same inner unpacks;
       outermost = outer_kept s is marked final same inner unpacks;
       queue = refl;
-      rest = refl;
+      frame = refl;
     }

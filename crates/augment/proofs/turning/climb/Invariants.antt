@@ -5,7 +5,7 @@ use Rattle.augment.proofs.turning.climb.Given as goal
 
 abbrev pub invariant-path : goal.invariant-path
 invariant-path l = record {
-  rest : l.search ≡ record l.fn.search { mates = l.search.mates };
+  frame : l.search ≡ record l.fn.search { mates = l.search.mates };
   shape : HasShape l.search;
   is : IsOutermost (state_of l.search) l.node;
   climbing : (h : CanClimb (state_of l.fn.search) l.fn.e l.fn.start) → IsClimbing (state_of l.fn.search) l.fn.e l.fn.start h (edge_in l.search.mates.items) l.edge l.node;

@@ -6,12 +6,12 @@ use Rattle.augment.specs.Turns.{IsClimbed}
 use Rattle.augment.proofs.Uprooted.{turns, turned}
 use Rattle.augment.proofs.turning.turn.Goals as goal
 
-pub climb-requires-clause-can : goal.climb-requires-clause-can
-climb-requires-clause-can c =
+pub climb-requires-clause-possible : goal.climb-requires-clause-possible
+climb-requires-clause-possible c =
     let s : State = state_of c.args.search.now in
     let m : ℕ → Option ℕ = edge_in c.uproot.new.search.mates.items in
     can_climb c.args.search.now _ c.requires.sound c.args.e c.args.near c.args.far (put m c.args.far (Some c.args.e))
-    (ap (λ (u : Search). state_of (record u { mates = c.set_edge.new.edges })) c.uproot.ensures.rest)
+    (ap (λ (u : Search). state_of (record u { mates = c.set_edge.new.edges })) c.uproot.ensures.frame)
     (λ nested depth st. rw c.set_edge.ensures.edges (turns s depth nested st c.args.e c.args.near c.args.far c.requires.ends m c.uproot.ensures.uprooted))
 
 pub returns-clause-turned : goal.returns-clause-turned
@@ -21,7 +21,7 @@ returns-clause-turned c =
     let m : ℕ → Option ℕ = edge_in c.uproot.new.search.mates.items in
     let n : ℕ → Option ℕ = edge_in c.climb.new.search.mates.items in
     let done = c.climb.ensures.climbed (can_climb c.args.search.now _ sound c.args.e c.args.near c.args.far (put m c.args.far (Some c.args.e))
-    (ap (λ (u : Search). state_of (record u { mates = c.set_edge.new.edges })) c.uproot.ensures.rest)
+    (ap (λ (u : Search). state_of (record u { mates = c.set_edge.new.edges })) c.uproot.ensures.frame)
     (λ nested depth st. rw c.set_edge.ensures.edges (turns s depth nested st c.args.e c.args.near c.args.far ends m c.uproot.ensures.uprooted))) in
     let root = (ways_lead s sound.depth c.args.far nested sound.state ends.far_is (λ q. outer_not_out (sym ends.far_outer ∙ q))).root in
     turned s sound.depth nested sound.state c.args.e c.args.near c.args.far ends m c.uproot.ensures.uprooted n
@@ -34,8 +34,8 @@ set_edge-requires c =
 
 pub climb-requires-clause-shape : goal.climb-requires-clause-shape
 climb-requires-clause-shape c =
-    let now = ap (λ (x : Search). let y : Search = record x { mates = c.set_edge.new.edges } in y) c.uproot.ensures.rest in
+    let now = ap (λ (x : Search). let y : Search = record x { mates = c.set_edge.new.edges } in y) c.uproot.ensures.frame in
     shape_mated c.args.search.now _ c.requires.sound.shape now (c.set_edge.ensures.len ∙ c.uproot.ensures.len)
 
-pub returns-clause-rest : goal.returns-clause-rest
-returns-clause-rest c = c.climb.ensures.rest ∙ ap (λ (x : Search). let y : Search = record x { mates = c.climb.new.search.mates } in y) c.uproot.ensures.rest
+pub returns-clause-frame : goal.returns-clause-frame
+returns-clause-frame c = c.climb.ensures.frame ∙ ap (λ (x : Search). let y : Search = record x { mates = c.climb.new.search.mates } in y) c.uproot.ensures.frame

@@ -1,7 +1,7 @@
 use Rattle.alt_forest.proofs.Common.{◌≡◌, ◌∙◌, ℕ, refl, sym, ap, subst, Some, None, Option, not, is_some, State, state_of, edge_in, put, no_entry}
 use Rattle.alt_forest.proofs.Common.{nested_of, mate_place, ◌<◌}
 use Rattle.alt_forest.specs.declared.search.Search.{Search}
-use Rattle.alt_forest.specs.declared.hop.Hop.{Hop}
+use Rattle.alt_forest.specs.declared.grandparent.GrandparentLink.{GrandparentLink}
 use Rattle.augment.proofs.Climbing.{shape_mated, inner_place, can_climb}
 use Rattle.augment.specs.Turns.{IsClimbed}
 use Rattle.augment.proofs.Uprooted.{uprooted_root, some_hop, read_hop, uproots, uprooted}
@@ -19,11 +19,11 @@ hop-hop-requires-clause-hop c =
     let has = sym (ap (λ o. is_some o) c.mate.ensures.mate) ∙ c.is_none.ensures ∙ ap not c.if-is_none.false in
     some_hop s sound.depth (nested_of c.args.search.now sound.shape) sound.state c.args.far c.requires.is c.requires.outer has
 
-pub climb-requires-clause-can : goal.climb-requires-clause-can
-climb-requires-clause-can c =
+pub climb-requires-clause-possible : goal.climb-requires-clause-possible
+climb-requires-clause-possible c =
     let s : State = state_of c.args.search.now in
     let has = sym (ap (λ o. is_some o) c.mate.ensures.mate) ∙ c.is_none.ensures ∙ ap not c.if-is_none.false in
-    let k : Hop = c.hop-hop.result in
+    let k : GrandparentLink = c.hop-hop.result in
     can_climb c.args.search.now _ c.requires.sound k.parent k.outer k.inner (put s.mate c.args.far None) refl
     (λ nested depth st. rw (c.set_edge-2.ensures.edges ∙ ap (λ n. put n k.inner (Some k.parent)) c.set_edge.ensures.edges)
     (uproots s depth nested st c.args.far k (read_hop s depth nested st c.args.far c.requires.is c.requires.outer has k c.hop-hop.ensures.hop)))
@@ -33,7 +33,7 @@ returns-clause-uprooted c =
     let s : State = state_of c.args.search.now in let sound = c.requires.sound in
     let nested = nested_of c.args.search.now sound.shape in
     let has = sym (ap (λ o. is_some o) c.mate.ensures.mate) ∙ c.is_none.ensures ∙ ap not c.if-is_none.false in
-    let k : Hop = c.hop-hop.result in
+    let k : GrandparentLink = c.hop-hop.result in
     let hop = read_hop s sound.depth nested sound.state c.args.far c.requires.is c.requires.outer has k c.hop-hop.ensures.hop in
     let now : edge_in c.set_edge-2.new.edges.items ≡ put (put s.mate c.args.far None) k.inner (Some k.parent) = c.set_edge-2.ensures.edges
     ∙ ap (λ n. put n k.inner (Some k.parent)) c.set_edge.ensures.edges in

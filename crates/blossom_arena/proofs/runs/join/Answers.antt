@@ -7,7 +7,7 @@ use Rattle.blossom_arena.proofs.runs.join.Goals as goal
 pub overflow_add-size : goal.overflow_add-size
 overflow_add-size c =
     let size = ap (λ (r : Run). r.size) (c.find_run-run.ensures ∙ ap (run_of c.args.count c.args.kept.now) c.number.ensures) in
-    omega (arith, size, rw (drop_next c.args.circuit.now c.loop-link.link-index c.link-item.result c.loop-link-test.true c.link-item.is) at c.loop-link.invariant.sum, c.requires.few)
+    omega (arith, size, rw (drop_next c.args.circuit.now c.loop-link.link-index c.link-item.result c.loop-link-test.true c.link-item.is) at c.loop-link.invariant.sum, c.requires.size_limit)
 
 pub loop-link-preserved : goal.loop-link-preserved
 loop-link-preserved c =

@@ -8,7 +8,7 @@ returns c =
     let g = c.args.graph.now in
     let numbers = c.args.numbers.now in
     let whole : c.loop-number.part ≡ chosen g numbers = c.loop-number.invariant ∙ ap (chosen g) (take_all c.loop-number.number-index numbers c.loop-number-test.false) in
-    record { graph = whole; plain = subst HasNoLoop (sym whole) (chosen-plain g numbers c.requires.plain c.requires.numbers) }
+    record { graph = whole; loopless = subst HasNoLoop (sym whole) (chosen-plain g numbers c.requires.loopless c.requires.numbers) }
 
 pub loop-number-preserved : goal.loop-number-preserved
 loop-number-preserved c =

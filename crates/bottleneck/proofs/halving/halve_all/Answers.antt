@@ -5,7 +5,7 @@ use Rattle.bottleneck.proofs.halving.halve_all.Goals as goal
 
 pub loop-range-init : goal.loop-range-init
 loop-range-init g c =
-    halving_start c.args.graph.now c.args.weights.now c.args.range.now c.args.steps.now (most_steps (size_of_graph c.args.graph.now)) c.requires.range c.requires.small
+    halving_start c.args.graph.now c.args.weights.now c.args.range.now c.args.steps.now (most_steps (size_of_graph c.args.graph.now)) c.requires.range c.requires.value_limit
 
 pub loop-range-preserved : goal.loop-range-preserved
 loop-range-preserved g c =

@@ -13,10 +13,10 @@ halve-requires-clause-range g c =
     let size = r.high ∙ ap length c.deref-2.ensures.value in
     let at : IsStart c.in_ok-graph.graph ws c.in_ok-first.first = subst (λ (zs : List ℤ). IsStart c.in_ok-graph.graph zs c.in_ok-first.first) c.deref.ensures.value c.in_ok-first.ensures in
     rw (c.deref-3.ensures.value)
-    (started c.in_ok-graph.graph ws c.range_from-range.result c.in_ok-first.first c.in_ok-weights.ensures.good c.in_ok-weights.ensures.weights at r.low size r.barrier)
+    (started c.in_ok-graph.graph ws c.range_from-range.result c.in_ok-first.first c.in_ok-weights.ensures.is_graph c.in_ok-weights.ensures.weights at r.low size r.barrier)
 
-pub halve-requires-clause-few : goal.halve-requires-clause-few
-halve-requires-clause-few g c =
+pub halve-requires-clause-size_limit : goal.halve-requires-clause-size_limit
+halve-requires-clause-size_limit g c =
     rw (c.range_from-range.ensures.high, c.deref-2.ensures.value)
     (plain_few c.args.instance.now c.in_ok-graph.graph c.in_ok-weights.weights.items c.in_ok-graph.ensures.graph c.vertices.ensures.network c.in_ok-weights.ensures.weights)
 
@@ -31,8 +31,8 @@ returns-clause-found g c =
     let same : c.deref-3.result.now ≡ c.deref-4.result.now = c.deref-3.ensures.value ∙ sym c.deref-4.ensures.value in
     let range = subst (λ (ws : List ℤ). IsRange c.in_ok-graph.graph ws c.halve.new.range) same c.in_ok-halve.ensures.range in
     rw (c.told.ensures)
-    (answered i c.in_ok-graph.graph c.deref-4.result.now c.halve.new.range c.in_ok-graph.ensures.graph c.in_ok-weights.ensures.good
-    c.in_ok-graph.ensures.plain some range c.in_ok-halve.ensures.one)
+    (answered i c.in_ok-graph.graph c.deref-4.result.now c.halve.new.range c.in_ok-graph.ensures.graph c.in_ok-weights.ensures.is_graph
+    c.in_ok-graph.ensures.loopless some range c.in_ok-halve.ensures.one)
 
 pub returns-clause-steps : goal.returns-clause-steps
 returns-clause-steps g c =

@@ -9,8 +9,8 @@ returns c =
     let h = c.args.part.now in
     let s = c.args.engine.now in
     let edges = c.in_ok-edges.edges.items in
-    let found : IsPerfect h (matching_of h s.mates) = subst (λ (k : Multigraph). IsPerfect k (matching_of k s.mates)) c.requires.same c.requires.ends.perfect in (
+    let found : IsPerfect h (matching_of h s.mates) = subst (λ (k : Multigraph). IsPerfect k (matching_of k s.mates)) c.requires.same_graph c.requires.ends.perfect in (
       edges,
-      list_from_perfect h (matching_of h s.mates) edges c.requires.plain found c.in_ok-edges.ensures.counts,
+      list_from_perfect h (matching_of h s.mates) edges c.requires.loopless found c.in_ok-edges.ensures.counts,
       c.in_ok-all.ensures ∙ ap (numbers_in c.args.numbers.now) c.deref.ensures.value,
     )

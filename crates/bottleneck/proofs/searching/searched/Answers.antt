@@ -6,4 +6,4 @@ returns-in_ok-set-in-Barrier-clause-found g c =
     let s = c.run.new.self in
     let e = c.in-Barrier.ensures in
     let P = λ (h : Multigraph) (vs : List ℕ). IsVertexSet h.vertices vs × IsBarrier h vs in
-    subst (P c.args.part.now) (sym c.in_ok-set-in-Barrier.ensures) (subst (λ (h : Multigraph). P h s.barrier) (e.graph ∙ c.requires.same) (e.ends.vertex_set, e.ends.excludes))
+    subst (P c.args.part.now) (sym c.in_ok-set-in-Barrier.ensures) (subst (λ (h : Multigraph). P h s.barrier) (e.graph ∙ c.requires.same_graph) (e.ends.vertex_set, e.ends.excludes))

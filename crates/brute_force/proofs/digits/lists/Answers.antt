@@ -17,6 +17,6 @@ loop-most-preserved c =
     let k = c.loop-most.most-index in
     let item : c.from.result ≡ slice_index mosts k = search rules in
     record {
-      few = (let few : c.loop-most.total * (c.from.result + 1) ≤ 1048576 = omega (arith, c.if-total-gt-TRIAL_LIMIT.false) in few);
+      size_limit = (let few : c.loop-most.total * (c.from.result + 1) ≤ 1048576 = omega (arith, c.if-total-gt-TRIAL_LIMIT.false) in few);
       product = lists-on mosts k c.loop-most.total c.from.result c.loop-most-test.true item c.loop-most.invariant.product;
     }

@@ -5,5 +5,5 @@ use Rattle.brute_force.proofs.mosts.mosts.Given as goal
 abbrev pub invariant-loop-edge : goal.invariant-loop-edge
 invariant-loop-edge l = record {
   so_far : l.list.items ≡ map (most_of l.kind l.instance) (take l.edge-index l.instance.edges);
-  small : All (λ most. most ≤ 4096) l.list.items;
+  value_limit : All (λ most. most ≤ 4096) l.list.items;
 }

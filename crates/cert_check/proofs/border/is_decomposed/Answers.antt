@@ -16,7 +16,7 @@ overflow_add-result c =
     let counted : IsOddCount g c.args.border.now c.in-Some.odd = rw c.in-Some.is at c.in_ok-odd.ensures.count in
     let few : c.in-Some.odd ≤ g.vertices = odd-few g c.args.border.now c.in-Some.odd counted in
     let small : g.vertices < 4294967296 = c.vertices.ensures.graph.few_vertices in
-    omega (arith, c.requires.small)
+    omega (arith, c.requires.size_limit)
 
 pub returns : goal.returns
 returns c = λ set are. (let g = c.args.graph.now in

@@ -1,9 +1,9 @@
 use Rattle.certificates.proofs.Common.{◌≡◌, ◌≤◌, ℕ, Bool, IsTrue, Result, Ok, Err, IfOk, List, ℤ, All, sym, ap, ◌∙◌, subst, GRAPH_VERTEX_LIMIT, IsVertexSet, Multigraph}
-use Rattle.certificates.proofs.Common.{IsPerfect, Kind, Barrier, exclusion_of, Network, gadget_graph, ReachesAll, HasNoAnswer, no_answer, AllocError, MemberLine, numbers, IsUpTo}
+use Rattle.certificates.proofs.Common.{IsPerfect, Kind, Barrier, obstruction_of, Network, gadget_graph, ReachesAll, HasNoAnswer, no_answer, AllocError, MemberLine, numbers, IsUpTo}
 use Rattle.certificates.proofs.Common.{barrier-set, up_to-more, few_vertices, barrier-in}
 use Rattle.cert_check.proofs.infeasible.has_barrier.Goals as goal
 
-none_of : (kind : Kind) (i : Network) (r : Result Bool AllocError) → exclusion_of kind ≡ Barrier → ReachesAll kind i →
+none_of : (kind : Kind) (i : Network) (r : Result Bool AllocError) → obstruction_of kind ≡ Barrier → ReachesAll kind i →
     IfOk r (λ b. IsTrue b → (counts : List ℕ) → IsPerfect (gadget_graph kind i) counts → ⊥) → IfOk r (λ b. IsTrue b → HasNoAnswer kind i)
 none_of kind i (Ok b) excluded reached h = λ t. no_answer kind i excluded reached (h t)
 none_of kind i (Err e) excluded reached h = tt

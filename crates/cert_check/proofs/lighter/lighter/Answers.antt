@@ -51,18 +51,18 @@ loop-edge-preserved c =
     let list = c.edge_list-edge-items.ensures.list in
     let inside : k < length es = rw list at c.loop-edge-test.true in
     let is : e ≡ get_or es k e = rw list at c.edge-item.is in
-    let few : length h.edges ≤ k = c.loop-edge.invariant.few in
+    let few : length h.edges ≤ k = c.loop-edge.invariant.size_limit in
     elim c.if-edge-weight.branch [
       | then-edge-weight+in_ok-add w ↦
           let lighter : int_lt e.w weight ≡ true = ap (λ (z : ℤ). int_lt z weight) (sym same) ∙ w.if-edge-weight.true in
           let next : c.if-edge-weight.light ≡ with h (e ∷ []) = w.light-is ∙ w.in_ok-add.ensures.added ∙ ap (λ (z : ℤ). with h (record { u = e.u; v = e.v; w = z } ∷ [])) same in
           let size : length c.if-edge-weight.light.edges ≤ k + 1 = omega (arith, ap (λ (g : Multigraph). length g.edges) next, length-append h.edges (e ∷ []), few) in
-          record { light = light-more c.args.graph.now.vertices weight es k e true h _ inside is lighter c.loop-edge.invariant.light next; few = size }
+          record { light = light-more c.args.graph.now.vertices weight es k e true h _ inside is lighter c.loop-edge.invariant.light next; size_limit = size }
       | else-edge-weight w ↦
           let lighter : int_lt e.w weight ≡ false = ap (λ (z : ℤ). int_lt z weight) (sym same) ∙ w.if-edge-weight.false in
           let next : c.if-edge-weight.light ≡ with h [] = w.light-is ∙ ap (graph h.vertices) (sym (append-nil h.edges)) in
           let size : length c.if-edge-weight.light.edges ≤ k + 1 = omega (arith, ap (λ (g : Multigraph). length g.edges) w.light-is, few) in
-          record { light = light-more c.args.graph.now.vertices weight es k e false h _ inside is lighter c.loop-edge.invariant.light next; few = size }
+          record { light = light-more c.args.graph.now.vertices weight es k e false h _ inside is lighter c.loop-edge.invariant.light next; size_limit = size }
     ]
 
 pub returns : goal.returns

@@ -4,5 +4,5 @@ use Rattle.cert_check.proofs.lighter.lighter.Given as goal
 abbrev pub invariant-loop-edge : goal.invariant-loop-edge
 invariant-loop-edge l = record {
   light : l.light ≡ record { vertices = l.graph.vertices; edges = filter (λ e. int_lt e.w l.weight) (take l.edge-index l.graph.edges) };
-  few : length l.light.edges ≤ l.edge-index;
+  size_limit : length l.light.edges ≤ l.edge-index;
 }

@@ -23,7 +23,7 @@ module _ (kind : Kind) (i : Network) (d : Document) (is : proof_of kind ≡ Oute
 not_all : (i : Network) (d : Document) (line : ℕ) → IsFirstPathless i d line → HavePathForm i d → ⊥
 not_all i d line f have =
     let none : PathLine = record { line = 0; vertex = pos 0; edges = [] } in
-    f.lacks (get_or d.paths f.at none) (get_or_default d.paths f.at none _ f.there) (All-get_or (IsStatedPath i d) d.paths f.at none f.there have)
+    f.lacks (get_or d.paths f.at none) (get_or_default d.paths f.at none _ f.in_range) (All-get_or (IsStatedPath i d) d.paths f.at none f.in_range have)
 
 -- the stated weight is a number of edges
 weight-least : (kind : Kind) (i : Network) (d : Document) → proof_of kind ≡ OuterPaths → HasStatedWeight kind i d → pos 0 ≤ℤ d.weight

@@ -33,7 +33,7 @@ returns-clause-links c =
     record {
       nexts = c.set_link-3.ensures.len ∙ c.set_link.ensures.len;
       previouses = c.set_link-4.ensures.len ∙ c.set_link-2.ensures.len ∙ c.requires.links.previouses;
-      small = c.requires.links.small;
+      size_limit = c.requires.links.size_limit;
       linked = subst (λ (f : ℕ → ℕ). AreLinked f (link_at c.set_link-4.new.links.items)) (sym nexts)
           (subst (AreLinked (links_without n p place)) (sym previouses) (linked_without n p place c.requires.links.linked));
     }

@@ -24,7 +24,7 @@ returns-in-Some-2 c =
     record {
       left = c.take.ensures.left;
       room = closed.trail.one_each;
-      found = circuit-found g c.args.left.now.counts.items c.take.new.self.counts.items c.args.base c.args.base c.in-Some-2.place c.go_on_or_close.new.trail c.requires.even.small
+      found = circuit-found g c.args.left.now.counts.items c.take.new.self.counts.items c.args.base c.args.base c.in-Some-2.place c.go_on_or_close.new.trail c.requires.even.value_limit
           closed closes.negative;
     }
 

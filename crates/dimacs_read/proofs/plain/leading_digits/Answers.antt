@@ -7,13 +7,13 @@ use Rattle.dimacs_read.proofs.plain.leading_digits.Goals as goal
 pub overflow_mul-value : goal.overflow_mul-value
 overflow_mul-value c =
     let few : c.digits.count ≤ 18 = omega arith in
-    let small : c.digits.value < 1000000000000000000 = few_digits c.digits.count c.digits.value few c.digits.invariant.small in
+    let small : c.digits.value < 1000000000000000000 = few_digits c.digits.count c.digits.value few c.digits.invariant.value_limit in
     omega (arith, small)
 
 pub overflow_add-value : goal.overflow_add-value
 overflow_add-value c =
     let few : c.digits.count ≤ 18 = omega arith in
-    let small : c.digits.value < 1000000000000000000 = few_digits c.digits.count c.digits.value few c.digits.invariant.small in
+    let small : c.digits.value < 1000000000000000000 = few_digits c.digits.count c.digits.value few c.digits.invariant.value_limit in
     omega (arith, small, c.from.ensures)
 
 pub digits-preserved : goal.digits-preserved
@@ -23,8 +23,8 @@ digits-preserved c =
     let here : is_digit (get_or bytes c.digits.count 0) ≡ true = grind (arith, nat_tests) in
     let low : c.from.result ≤ 9 = grind (arith, nat_tests) in
     record {
-      few = omega arith;
+      size_limit = omega arith;
       digits = digits_more bytes c.digits.count lt here c.digits.invariant.digits;
       value = omega (arith, value_more bytes c.digits.count lt, c.digits.invariant.value, c.from.ensures);
-      small = small_more c.digits.count c.digits.value c.from.result c.digits.invariant.small low;
+      value_limit = small_more c.digits.count c.digits.value c.from.result c.digits.invariant.value_limit low;
     }

@@ -4,10 +4,10 @@ use Rattle.dimacs_read.proofs.plain.leading_digits.Given as goal
 
 abbrev pub invariant-digits : goal.invariant-digits
 invariant-digits l = record {
-  few : l.count ≤ l.most;
+  size_limit : l.count ≤ l.most;
   digits : list_all is_digit (take l.count l.bytes) ≡ true;
   value : l.value ≡ value_from 0 (take l.count l.bytes);
-  small : l.value < 10 ^ l.count;
+  value_limit : l.value < 10 ^ l.count;
 }
 
 abbrev pub decreases-digits : goal.decreases-digits

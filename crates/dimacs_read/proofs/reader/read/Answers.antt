@@ -65,5 +65,5 @@ returns-clause-reading c =
 pub returns-clause-short : goal.returns-clause-short
 returns-clause-short c = omega (arith, c.in_ok-draft.ensures.short, c.in_ok-rest.ensures.line)
 
-pub returns-clause-ready : goal.returns-clause-ready
-returns-clause-ready c = is_ready c.args.kind (instance_rows (rows c.args.bytes.now)) c.in_ok-instance.instance (returns-clause-reading c).0
+pub returns-clause-well_formed : goal.returns-clause-well_formed
+returns-clause-well_formed c = is_ready c.args.kind (instance_rows (rows c.args.bytes.now)) c.in_ok-instance.instance (returns-clause-reading c).0

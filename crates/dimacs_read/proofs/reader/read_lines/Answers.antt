@@ -17,11 +17,11 @@ plainly c = c.in_ok-rest.ensures.reads c.args.bounds c.args.bytes.now c.lines.va
 
 pub overflow_add-result : goal.overflow_add-result
 overflow_add-result c =
-    let read = plainly (goal.at.overflow_add-result c).In_ok-rest in let begins = c.in-Broken.ensures.2 in omega (arith, read.small, begins.shorter)
+    let read = plainly (goal.at.overflow_add-result c).In_ok-rest in let begins = c.in-Broken.ensures.2 in omega (arith, read.value_limit, begins.shorter)
 
 pub overflow_add-line : goal.overflow_add-line
 overflow_add-line c =
-    let read = plainly (goal.at.overflow_add-line c).In_ok-rest in let begins = c.in-Found.ensures.1 in omega (arith, read.small, begins.shorter)
+    let read = plainly (goal.at.overflow_add-line c).In_ok-rest in let begins = c.in-Found.ensures.1 in omega (arith, read.value_limit, begins.shorter)
 
 pub returns-in-Broken : goal.returns-in-Broken
 returns-in-Broken c =

@@ -22,8 +22,8 @@ returns-in-Some-read_head-clause-opening c =
       says = ap (λ n. head_at n row) line ∙ said;
     }
 
-pub returns-in-Some-read_head-clause-small : goal.returns-in-Some-read_head-clause-small
-returns-in-Some-read_head-clause-small c = omega (arith, c.in-Some-read_head.ensures.line, c.in-Some.ensures.rest, c.lines.invariant.small)
+pub returns-in-Some-read_head-clause-size_limit : goal.returns-in-Some-read_head-clause-size_limit
+returns-in-Some-read_head-clause-size_limit c = omega (arith, c.in-Some-read_head.ensures.line, c.in-Some.ensures.rest, c.lines.invariant.size_limit)
 
 pub returns-in-None-clause-opening : goal.returns-in-None-clause-opening
 returns-in-None-clause-opening c =
@@ -43,5 +43,5 @@ lines-preserved c =
     record {
       skips = skips_more c.args.line rs c.lines.number row left
           (skips_at c.args.line rs c.lines.number (rows c.lines.rest.now) (row ∷ left) at c.lines.invariant.skips) c.in_default-first_field.ensures;
-      small = omega (arith, c.in-Some.ensures.rest, c.lines.invariant.small);
+      size_limit = omega (arith, c.in-Some.ensures.rest, c.lines.invariant.size_limit);
     }

@@ -6,7 +6,7 @@ use Rattle.doc_format.proofs.reading.open.Given as goal
 abbrev pub invariant-lines : goal.invariant-lines
 invariant-lines l = record {
   skips : Skips l.line (rows l.bytes) l.number (rows l.rest);
-  small : l.number + length l.rest ≤ l.line + length l.bytes;
+  size_limit : l.number + length l.rest ≤ l.line + length l.bytes;
 }
 
 abbrev pub decreases-lines : goal.decreases-lines

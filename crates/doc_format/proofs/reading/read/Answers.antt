@@ -10,7 +10,7 @@ lines-init c = record {
   is_read = opened c.args.line (rows c.args.bytes.now)
       (rows c.in-Ok.opening.1.now) c.in-Ok.opening.0 c.new-draft.result.document c.in-Ok.ensures.opening c.new-draft.ensures.head c.new-draft.ensures.parts;
   last = c.new-draft.ensures.last;
-  small = omega (arith, c.in-Ok.ensures.small);
+  size_limit = omega (arith, c.in-Ok.ensures.size_limit);
 }
 
 pub returns-in-Err-take : goal.returns-in-Err-take
@@ -34,7 +34,7 @@ lines-preserved c =
     record {
       is_read = read_more c.args.line rs c.lines.number row left c.lines.draft.document c.take.new.self.document is_read c.in_default-take.ensures.taken.0 c.in_default-take.ensures.taken.1;
       last = c.in_default-take.ensures.last;
-      small = omega (arith, c.in-Some.ensures.rest, c.lines.invariant.small);
+      size_limit = omega (arith, c.in-Some.ensures.rest, c.lines.invariant.size_limit);
     }
 
 pub returns : goal.returns

@@ -10,7 +10,7 @@ abbrev pub invariant-lines : goal.invariant-lines
 invariant-lines l = record {
   is_read : IsRead l.line (rows l.bytes) l.number (rows l.rest) l.draft.document;
   last : IsLast l.draft.last (parts_of (body_of l.draft.document));
-  small : l.number + length l.rest ≤ l.line + length l.bytes;
+  size_limit : l.number + length l.rest ≤ l.line + length l.bytes;
 }
 
 abbrev pub decreases-lines : goal.decreases-lines

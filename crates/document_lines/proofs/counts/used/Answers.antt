@@ -17,6 +17,6 @@ returns c =
       counts = ap (λ (xs : List CountLine). counts_of xs (length cs)) is ∙ counts-lines cs;
       ascending = subst (λ (xs : List CountLine). AscendsBy (λ x. x.edge) xs) (sym is) (lines-ascend cs (length cs));
       unread = subst (λ (xs : List CountLine). All (λ x. x.line ≡ 1) xs) (sym is) (lines-unread cs (length cs));
-      in_range = subst (λ (xs : List CountLine). All (IsCountWithin (length cs)) xs) (sym is) (lines-within cs c.requires.small);
-      few = subst (λ (xs : List CountLine). length xs ≤ length cs) (sym is) (lines-few cs (length cs));
+      in_range = subst (λ (xs : List CountLine). All (IsCountWithin (length cs)) xs) (sym is) (lines-within cs c.requires.value_limit);
+      size_limit = subst (λ (xs : List CountLine). length xs ≤ length cs) (sym is) (lines-few cs (length cs));
     }

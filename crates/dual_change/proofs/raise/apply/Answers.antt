@@ -10,9 +10,9 @@ raise-requires-clause-in_range g c =
     let back : to_z w128 (of_z w128 c.args.d) ≡ c.args.d = search rules in
     subst (StaysInRange (state_of s)) (sym back) c.requires.in_range
 
-pub returns-clause-queued : goal.returns-clause-queued
-returns-clause-queued g c =
+pub returns-clause-event_times : goal.returns-clause-event_times
+returns-clause-event_times g c =
     let s : Search = c.args.search.now in
     let back : to_z w128 (of_z w128 c.args.d) ≡ c.args.d = search rules in
-    queued_later s c.raise.new.search (to_z w128 (of_z w128 c.args.d)) c.raise.ensures.rest c.raise.ensures.state c.requires.sound c.requires.queued c.requires.tree
+    queued_later s c.raise.new.search (to_z w128 (of_z w128 c.args.d)) c.raise.ensures.frame c.raise.ensures.state c.requires.sound c.requires.event_times c.requires.tree
     (subst (λ (x : ℤ). pos 0 ≤ℤ x) (sym back) c.requires.low) (subst (λ (x : ℤ). (s.clock +ℤ x) ≤ℤ NUMBER_LIMIT) (sym back) c.requires.clock)

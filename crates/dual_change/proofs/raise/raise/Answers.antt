@@ -3,7 +3,7 @@ use Rattle.alt_forest.proofs.Common.{HasShape, IsPlanted, IsSound}
 use Rattle.alt_forest.specs.declared.search.Search.{Search}
 use Rattle.dual_change.specs.Changes.{applied, IsWithin, StaysInRange}
 use Rattle.dual_change.proofs.Raised.{with_duals}
-use Rattle.dual_change.proofs.Clock.{standing_later}
+use Rattle.dual_change.proofs.Clock.{tree_nodes_later}
 use Rattle.dual_change.proofs.raise.raise.Goals as goal
 
 pub later-clock-requires : goal.later-clock-requires
@@ -21,7 +21,7 @@ raise_trees-requires g c =
     let d : to_z w64 (of_z w64 c.narrowed-d.result) ≡ c.args.d = search (rules, c.narrowed-d.ensures) in
     let r = c.requires in let within = subst (IsWithin s) (sym d) r.within in
     let low = subst (λ (x : ℤ). pos 0 ≤ℤ x) (sym d) r.low in
-    record { sound = r.sound; standing = r.standing; planted = r.planted; low = low; within = within; in_range = subst (StaysInRange s) (sym d) r.in_range }
+    record { sound = r.sound; listed = r.listed; all_rooted = r.all_rooted; low = low; within = within; in_range = subst (StaysInRange s) (sym d) r.in_range }
 
 pub returns : goal.returns
 returns g c =
@@ -30,11 +30,11 @@ returns g c =
     let d : to_z w64 (of_z w64 c.narrowed-d.result) ≡ c.args.d = search (rules, c.narrowed-d.ensures) in
     let back : to_z w64 (of_z w64 c.later-clock.result) ≡ c.later-clock.result = search rules in
     let now : Search = record t { clock = to_z w64 (of_z w64 c.later-clock.result) } in
-    let rest = ap (λ (y : Search). let z : Search = record y { clock = to_z w64 (of_z w64 c.later-clock.result) } in z) c.raise_trees.ensures.rest
+    let rest = ap (λ (y : Search). let z : Search = record y { clock = to_z w64 (of_z w64 c.later-clock.result) } in z) c.raise_trees.ensures.frame
     ∙ ap (λ (y : ℤ). let z : Search = record (with_duals s t.arena.duals) { clock = y } in z) (back ∙ c.later-clock.ensures ∙ ap₂ ◌+ℤ◌ start d) in
     let state : state_of t ≡ applied (state_of s) c.args.d = c.raise_trees.ensures.state ∙ ap (applied (state_of s)) d in
     let h = c.raise_trees.ensures.sound in let k = h.shape in
     let shape : HasShape now = record { graph = k.graph; family = k.family; arena = k.arena; labels = k.labels; parents = k.parents; mates = k.mates; circuit = k.circuit; room = k.room } in
     let sound : IsSound now = record { shape = shape; depth = h.depth; state = h.state } in
-    let standing = standing_later s now c.args.d rest state c.requires.standing in
-    record { state = state; rest = rest; sound = sound; standing = standing; planted = subst IsPlanted (sym state) c.requires.planted; step = c.tick.ensures }
+    let tree_nodes = tree_nodes_later s now c.args.d rest state c.requires.listed in
+    record { state = state; frame = rest; sound = sound; listed = tree_nodes; all_rooted = subst IsPlanted (sym state) c.requires.all_rooted; step = c.tick.ensures }

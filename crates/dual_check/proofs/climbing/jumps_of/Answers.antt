@@ -1,6 +1,6 @@
 use Rattle.graph_theory.proofs.Common.{◌≡◌, ◌∙◌, ℕ, ◌-◌, ◌<◌, List, length, set, ap, sym, subst, inl, inr, arith, cases_eq, length-replicate}
 use Rattle.std.proofs.Common.{get_or-set_same, get_or-set_other, length-set}
-use Rattle.dual_check.specs.Trees.{AreJumps, IsAround, number_at}
+use Rattle.dual_check.specs.Trees.{AreJumps, IsEnclosing, number_at}
 use Rattle.dual_check.proofs.climbing.jumps_of.Goals as goal
 
 pub loop-k-init : goal.loop-k-init
@@ -18,7 +18,7 @@ jump_from-jump-requires c =
       jumps = ap length c.deref.ensures.value ∙ c.loop-k.invariant.jumps.size;
       lengths = ap length c.deref-in-loop-k.ensures.value ∙ c.loop-k.invariant.lengths;
       later = λ inner. c.requires.later (c.args.count - 1 - c.loop-k.k) b inner;
-      known = λ x low high. subst (λ (l : List ℕ). IsAround c.args.count c.args.parents.now x (number_at l x)) (sym c.deref.ensures.value)
+      known = λ x low high. subst (λ (l : List ℕ). IsEnclosing c.args.count c.args.parents.now x (number_at l x)) (sym c.deref.ensures.value)
           (c.loop-k.invariant.jumps.each x (omega (arith, low, c.loop-k-test.true)) high);
     }
 
@@ -34,9 +34,9 @@ loop-k-preserved c =
       jumps = record {
         size = length-set old j new ∙ c.loop-k.invariant.jumps.size;
         each = λ x low high. elim (cases_eq x j) [
-          | inl here ↦ subst (λ (y : ℕ). IsAround n parents y (number_at (set old j new) y)) (sym here)
-              (subst (IsAround n parents j) (sym (get_or-set_same old j new 0 b)) c.jump_from-jump.ensures)
-          | inr other ↦ subst (IsAround n parents x) (sym (get_or-set_other old j x new 0 other)) (c.loop-k.invariant.jumps.each x (omega (arith, low, other)) high)
+          | inl here ↦ subst (λ (y : ℕ). IsEnclosing n parents y (number_at (set old j new) y)) (sym here)
+              (subst (IsEnclosing n parents j) (sym (get_or-set_same old j new 0 b)) c.jump_from-jump.ensures)
+          | inr other ↦ subst (IsEnclosing n parents x) (sym (get_or-set_other old j x new 0 other)) (c.loop-k.invariant.jumps.each x (omega (arith, low, other)) high)
         ];
       };
       lengths = length-set c.loop-k.lengths.items j c.jump_from-jump.result.1 ∙ c.loop-k.invariant.lengths;

@@ -9,17 +9,17 @@ pub other_end-far-requires : goal.other_end-far-requires
 other_end-far-requires c =
     (number_at c.args.graph.now c.args.vertex c.args.numbers.now c.loop-number.number-index c.number-item.result c.requires.numbers c.loop-number-test.true c.number-item.is).0
 
-pub add_unmarked-requires-clause-there : goal.add_unmarked-requires-clause-there
-add_unmarked-requires-clause-there c =
+pub add_unmarked-requires-clause-in_range : goal.add_unmarked-requires-clause-in_range
+add_unmarked-requires-clause-in_range c =
     (edge_there c.args.graph.now c.args.vertex c.args.numbers.now (given_out c.args.graph.now c.args.marks.now c.args.vertex (to_z w64 (of_z w64 c.args.dual))) c.args.totals.now
     c.loop-number.totals c.requires.numbers c.loop-number.number-index c.number-item.result c.number.result c.loop-number-test.true c.number-item.is c.number.ensures c.requires.size
-    c.requires.small c.loop-number.invariant).0
+    c.requires.value_limit c.loop-number.invariant).0
 
-pub add_unmarked-requires-clause-small : goal.add_unmarked-requires-clause-small
-add_unmarked-requires-clause-small c =
+pub add_unmarked-requires-clause-value_limit : goal.add_unmarked-requires-clause-value_limit
+add_unmarked-requires-clause-value_limit c =
     (edge_there c.args.graph.now c.args.vertex c.args.numbers.now (given_out c.args.graph.now c.args.marks.now c.args.vertex (to_z w64 (of_z w64 c.args.dual))) c.args.totals.now
     c.loop-number.totals c.requires.numbers c.loop-number.number-index c.number-item.result c.number.result c.loop-number-test.true c.number-item.is c.number.ensures c.requires.size
-    c.requires.small c.loop-number.invariant).1
+    c.requires.value_limit c.loop-number.invariant).1
 
 pub loop-number-preserved : goal.loop-number-preserved
 loop-number-preserved c =

@@ -33,7 +33,7 @@ add_set-requires c =
       marks = ap length c.deref_mut.ensures.value ∙ c.loop-k.invariant.marks;
       none = λ v. ap (λ (m : List Bool). is_marked m v) c.deref_mut.ensures.value ∙ c.loop-k.invariant.none v;
       size = ap length c.deref_mut-then-not-taken-k.ensures.value ∙ c.loop-k.invariant.size;
-      small = λ e b.
+      value_limit = λ e b.
           let r = others-within c.args.sets.now c.args.taken.now c.loop-k.k (edge_of c.args.graph.now e) (omega arith) c.requires.numbers in
           sum-small k _ _ (omega arith) (ap (λ (m : List ℤ). total_at m e) c.deref_mut-then-not-taken-k.ensures.value ∙ c.loop-k.invariant.exact e b) r;
     }

@@ -76,9 +76,9 @@ returns-clause-adds c =
 within-more : (a d z : ℤ) → z ≡ a +ℤ d → IsWithin 1 a → IsNumber d → IsWithin 3 z
 within-more a d z is small number = (omega (arith, ints, is, small.0, number.0), omega (arith, ints, is, small.1, number.1))
 
-pub add_from-requires-clause-small : goal.add_from-requires-clause-small
-add_from-requires-clause-small c = λ e b.
-    within-more (total_at c.args.totals.now e) _ _ (c.loop-vertex.invariant.exact e b) (c.requires.small e b) (given_or_none _ c.args.set.now.dual c.requires.dual)
+pub add_from-requires-clause-value_limit : goal.add_from-requires-clause-value_limit
+add_from-requires-clause-value_limit c = λ e b.
+    within-more (total_at c.args.totals.now e) _ _ (c.loop-vertex.invariant.exact e b) (c.requires.value_limit e b) (given_or_none _ c.args.set.now.dual c.requires.dual)
 
 pub add_from-requires-clause-dual : goal.add_from-requires-clause-dual
 add_from-requires-clause-dual c = subst (λ (z : ℤ). IsNumber z) (sym (same-dual c.args.set.now.dual c.requires.dual)) c.requires.dual

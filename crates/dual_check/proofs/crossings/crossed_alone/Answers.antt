@@ -23,14 +23,14 @@ holders_of-requires c = record {
 pub add_taken-requires : goal.add_taken-requires
 add_taken-requires c = record {
   index = c.requires.index;
-  plain = c.requires.plain;
+  loopless = c.requires.loopless;
   numbers = c.requires.numbers;
   within = c.requires.within;
   forms = c.requires.forms;
   holders = subst (λ (t : List Bool). IsHolders c.args.graph.now.vertices c.args.sets.now t c.in_ok-holders.holders) (c.deref-3.ensures.value ∙ sym c.deref-4.ensures.value)
       (subst (λ (n : ℕ). IsHolders n c.args.sets.now c.deref-3.result.now c.in_ok-holders.holders) c.vertices.ensures.count c.in_ok-holders.ensures);
   size = ap length c.deref_mut.ensures.value ∙ c.in_ok-totals.ensures.size;
-  small = λ e b.
+  value_limit = λ e b.
       let r = others-within c.args.sets.now c.deref-2.result.now (length c.args.sets.now) (edge_of c.args.graph.now e) (omega arith) c.requires.numbers in
       sum-small (length c.args.sets.now) _ _ (omega arith) (ap (λ (m : List ℤ). total_at m e) c.deref_mut.ensures.value ∙ c.in_ok-totals.ensures.totals e b) r;
 }

@@ -51,14 +51,14 @@ crossed_alone-requires-clause-forms c = All-from_get_or (λ s. IsStrictlyIncreas
 pub add_trees-requires : goal.add_trees-requires
 add_trees-requires c = record {
   index = c.requires.index;
-  plain = c.requires.plain;
+  loopless = c.requires.loopless;
   numbers = c.requires.numbers;
   within = c.requires.within;
   earlier = c.requires.earlier;
   forms = c.requires.forms;
   alone = subst (AreAlone c.args.sets.now) (sym c.deref-2.ensures.value) c.in_ok-flags.ensures;
   size = ap length c.deref_mut.ensures.value ∙ c.in_ok-totals.ensures.size;
-  small = λ e b.
+  value_limit = λ e b.
       let r = taken-within c.args.sets.now c.deref.result.now (length c.args.sets.now) (edge_of c.args.graph.now e) (omega arith) c.requires.numbers in
       sum-small (length c.args.sets.now) _ _ (omega arith) (ap (λ (m : List ℤ). total_at m e) c.deref_mut.ensures.value ∙ c.in_ok-totals.ensures.totals e b) r;
 }

@@ -8,7 +8,7 @@ pub first_set_fault-requires-clause-within : goal.first_set_fault-requires-claus
 first_set_fault-requires-clause-within c = subst (λ (n : ℕ). All (IsGivenWithin n) c.args.sets.now) (sym c.vertices.ensures.count) c.requires.sets_within
 
 pub crossed_all-requires : goal.crossed_all-requires
-crossed_all-requires c = record { numbers = c.requires.set_numbers; within = c.requires.sets_within; earlier = c.requires.earlier; forms = search rules; plain = c.requires.plain }
+crossed_all-requires c = record { numbers = c.requires.set_numbers; within = c.requires.sets_within; earlier = c.requires.earlier; forms = search rules; loopless = c.requires.loopless }
 
 pub first_slack_fault-requires : goal.first_slack_fault-requires
 first_slack_fault-requires c =

@@ -11,7 +11,7 @@ put_vertices-requires c =
     let sets = c.args.sets.now in
     let sp = c.requires.spread in
     let j = c.loop-set.set in
-    let b : j < length sets = omega (arith, c.loop-set-test.true, sp.few) in
+    let b : j < length sets = omega (arith, c.loop-set-test.true, sp.size_limit) in
     let here : slice_index_or sets j c.index-sets-set.result ≡ given_at sets j = get_or_default sets j c.index-sets-set.result no_given b in
     let own = ap (λ (l : List ℕ). length l) c.as_slice.ensures ∙ ap (λ (z : OddSet). length z.vertices) here in
     let f = fits sets c.args.count c.args.parents.now c.args.sizes.now 0 c.args.begins.now sp j (omega arith) c.loop-set-test.true in
@@ -21,7 +21,7 @@ pub loop-set-preserved : goal.loop-set-preserved
 loop-set-preserved c =
     let sets = c.args.sets.now in
     let j = c.loop-set.set in
-    let b : j < length sets = omega (arith, c.loop-set-test.true, c.requires.spread.few) in
+    let b : j < length sets = omega (arith, c.loop-set-test.true, c.requires.spread.size_limit) in
     let here : slice_index_or sets j c.index-sets-set.result ≡ given_at sets j = get_or_default sets j c.index-sets-set.result no_given b in
     let list : c.as_slice.result.now ≡ (given_at sets j).vertices = c.as_slice.ensures ∙ ap (λ (z : OddSet). z.vertices) here in
     let new = c.put_vertices.new.places.items in

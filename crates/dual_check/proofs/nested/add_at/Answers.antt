@@ -12,15 +12,16 @@ pub add_to-requires : goal.add_to-requires
 add_to-requires c =
     let there = edge_there c.args.graph.now c.args.vertex c.args.numbers.now
     (apart_at c.args.graph.now c.args.sets.now c.args.forest.now c.args.stands.now c.args.begin c.args.q c.args.vertex) c.args.totals.now c.loop-number.totals c.requires.numbers
-    c.loop-number.number-index c.number-item.result c.number.result c.loop-number-test.true c.number-item.is c.number.ensures c.requires.size c.requires.small c.loop-number.invariant in
-    record { there = there.0; small = there.1; more = read_within c.unshared-apart.result c.unshared-apart.ensures.small }
+    c.loop-number.number-index c.number-item.result c.number.result c.loop-number-test.true c.number-item.is c.number.ensures c.requires.size c.requires.value_limit c.loop-number.invariant
+    in
+    record { in_range = there.0; value_limit = there.1; more = read_within c.unshared-apart.result c.unshared-apart.ensures.value_limit }
 
 pub loop-number-preserved : goal.loop-number-preserved
 loop-number-preserved c =
     given_next c.args.numbers.now c.loop-number.number-index c.number-item.result c.number.result
     (apart_at c.args.graph.now c.args.sets.now c.args.forest.now c.args.stands.now c.args.begin c.args.q c.args.vertex) c.args.totals.now c.loop-number.totals
     (ascend c.args.graph.now c.args.vertex c.args.numbers.now c.requires.numbers) c.loop-number-test.true c.number-item.is c.number.ensures c.loop-number.invariant _ _
-    (read_whole c.unshared-apart.result c.unshared-apart.ensures.small ∙ c.unshared-apart.ensures.exact
+    (read_whole c.unshared-apart.result c.unshared-apart.ensures.value_limit ∙ c.unshared-apart.ensures.exact
     ∙ ap (λ w. unshared_dual c.args.sets.now c.args.forest.now c.args.begin c.args.q (stand_of c.args.stands.now w))
     (c.number-far.ensures ∙ c.other_end.ensures.end)) c.add_to.ensures.size c.add_to.ensures.exact
 

@@ -22,13 +22,14 @@ returns-then-alone-root c =
     let f = c.args.forest.now in
     let r = c.args.root in
     let root : length c.args.sets.now ≤ number_at c.args.forest.now.parents.items c.args.root = omega (arith, c.parent.ensures, c.if-parent-sets.false) in
-    let placed = c.requires.ready.grown.links.placed r c.requires.there root in
-    let order = c.requires.ready.grown.forest.ordered r c.requires.there in
+    let placed = c.requires.well_formed.grown.links.placed r c.requires.in_range root in
+    let order = c.requires.well_formed.grown.forest.ordered r c.requires.in_range in
     record {
       table = refl;
       early = λ w. omega (arith, c.requires.early w, placed.0, placed.1, order.0);
-      adds = alone_over c.args.graph.now.vertices c.args.sets.now c.args.alone.now f r (passed f (length c.args.sets.now) (r + 1)) (passed f (length c.args.sets.now) r) c.requires.ready
-          c.requires.there root (sym placed.0) (sym placed.1) c.args.graph.now c.args.totals.now (omega (arith, placed.0, placed.1, order.0)) c.if-alone-root.true;
+      adds = alone_over c.args.graph.now.vertices c.args.sets.now c.args.alone.now f r (passed f (length c.args.sets.now) (r + 1))
+          (passed f (length c.args.sets.now) r) c.requires.well_formed
+          c.requires.in_range root (sym placed.0) (sym placed.1) c.args.graph.now c.args.totals.now (omega (arith, placed.0, placed.1, order.0)) c.if-alone-root.true;
     }
 
 pub put_stands-requires : goal.put_stands-requires
@@ -36,59 +37,59 @@ put_stands-requires c =
     let f = c.args.forest.now in
     let r = c.args.root in
     let root : length c.args.sets.now ≤ number_at c.args.forest.now.parents.items c.args.root = omega (arith, c.parent.ensures, c.if-parent-sets.false) in
-    let order = c.requires.ready.grown.forest.ordered r c.requires.there in
+    let order = c.requires.well_formed.grown.forest.ordered r c.requires.in_range in
     record {
       order = omega (arith, order.0, c.begin-begin.ensures, c.end-end.ensures);
       last = omega (arith, order.1, c.end-end.ensures);
       places = λ q low high.
-          let within = vertex_within c.args.graph.now.vertices c.args.sets.now c.args.alone.now f r c.begin-begin.result c.end-end.result c.requires.ready c.requires.there root
+          let within = vertex_within c.args.graph.now.vertices c.args.sets.now c.args.alone.now f r c.begin-begin.result c.end-end.result c.requires.well_formed c.requires.in_range root
           c.begin-begin.ensures c.end-end.ensures q low high in
           omega (arith, within, c.requires.table);
-      early = λ w. omega (arith, c.requires.early w, (c.requires.ready.grown.links.placed r c.requires.there root).0, c.begin-begin.ensures);
+      early = λ w. omega (arith, c.requires.early w, (c.requires.well_formed.grown.links.placed r c.requires.in_range root).0, c.begin-begin.ensures);
     }
 
 pub vertex-vertex-requires : goal.vertex-vertex-requires
-vertex-vertex-requires c = omega (arith, (c.requires.ready.grown.forest.ordered c.args.root c.requires.there).1, c.end-end.ensures, c.loop-q-test.true)
+vertex-vertex-requires c = omega (arith, (c.requires.well_formed.grown.forest.ordered c.args.root c.requires.in_range).1, c.end-end.ensures, c.loop-q-test.true)
 
 pub at-requires : goal.at-requires
 at-requires c =
     let root : length c.args.sets.now ≤ number_at c.args.forest.now.parents.items c.args.root = omega (arith, c.parent.ensures, c.if-parent-sets.false) in
-    let within = vertex_within c.args.graph.now.vertices c.args.sets.now c.args.alone.now c.args.forest.now c.args.root c.begin-begin.result c.end-end.result c.requires.ready
-    c.requires.there root c.begin-begin.ensures c.end-end.ensures c.loop-q.q c.loop-q.auto.q c.loop-q-test.true in
+    let within = vertex_within c.args.graph.now.vertices c.args.sets.now c.args.alone.now c.args.forest.now c.args.root c.begin-begin.result c.end-end.result c.requires.well_formed
+    c.requires.in_range root c.begin-begin.ensures c.end-end.ensures c.loop-q.q c.loop-q.auto.q c.loop-q-test.true in
     omega (arith, within, c.vertex-vertex.ensures, c.requires.index.size)
 
 pub add_at-requires : goal.add_at-requires
 add_at-requires c = record {
   numbers =
       let root : length c.args.sets.now ≤ number_at c.args.forest.now.parents.items c.args.root = omega (arith, c.parent.ensures, c.if-parent-sets.false) in
-      let within = vertex_within c.args.graph.now.vertices c.args.sets.now c.args.alone.now c.args.forest.now c.args.root c.begin-begin.result c.end-end.result c.requires.ready
-      c.requires.there root c.begin-begin.ensures c.end-end.ensures c.loop-q.q c.loop-q.auto.q c.loop-q-test.true in
+      let within = vertex_within c.args.graph.now.vertices c.args.sets.now c.args.alone.now c.args.forest.now c.args.root c.begin-begin.result c.end-end.result c.requires.well_formed
+      c.requires.in_range root c.begin-begin.ensures c.end-end.ensures c.loop-q.q c.loop-q.auto.q c.loop-q-test.true in
       kept_list c.args.graph.now c.args.incidence.now c.vertex-vertex.result c.at.result.now c.requires.index (omega (arith, within, c.vertex-vertex.ensures)) c.at.ensures;
-  duals = c.requires.ready.numbers;
-  grown = c.requires.ready.grown;
-  position = omega (arith, (c.requires.ready.grown.forest.ordered c.args.root c.requires.there).1, c.end-end.ensures, c.loop-q-test.true);
+  duals = c.requires.well_formed.numbers;
+  grown = c.requires.well_formed.grown;
+  position = omega (arith, (c.requires.well_formed.grown.forest.ordered c.args.root c.requires.in_range).1, c.end-end.ensures, c.loop-q-test.true);
   table = c.put_stands.ensures.size ∙ c.requires.table;
   stands = λ w.
-      let order = c.requires.ready.grown.forest.ordered c.args.root c.requires.there in
+      let order = c.requires.well_formed.grown.forest.ordered c.args.root c.requires.in_range in
       let most = stand_most c.args.forest.now c.begin-begin.result c.end-end.result w _ (omega (arith, order.0, c.begin-begin.ensures, c.end-end.ensures)) (c.put_stands.ensures.stands w) in
       omega (arith, most, order.1, c.end-end.ensures);
   size = c.loop-q.invariant.size ∙ c.requires.size;
-  small = λ e b.
-      let ready = c.requires.ready in
-      let plain = c.requires.plain (e - 1) no_edge (omega (arith, b.0, b.1)) in
+  value_limit = λ e b.
+      let ready = c.requires.well_formed in
+      let plain = c.requires.loopless (e - 1) no_edge (omega (arith, b.0, b.1)) in
       let r = reached_within c.args.sets.now c.args.alone.now c.args.forest.now (edge_of c.args.graph.now e) c.loop-q.q ready.earlier ready.forms ready.grown ready.numbers plain
-      (omega (arith, (ready.grown.forest.ordered c.args.root c.requires.there).1, c.end-end.ensures, c.loop-q-test.true)) (omega arith) in
-      within-apart (total_at c.args.totals.now e) _ _ _ (c.loop-q.invariant.exact e b) (c.requires.small e b) r;
+      (omega (arith, (ready.grown.forest.ordered c.args.root c.requires.in_range).1, c.end-end.ensures, c.loop-q-test.true)) (omega arith) in
+      within-apart (total_at c.args.totals.now e) _ _ _ (c.loop-q.invariant.exact e b) (c.requires.value_limit e b) r;
 }
 
 pub loop-q-init : goal.loop-q-init
 loop-q-init c =
-    let placed = c.requires.ready.grown.links.placed c.args.root c.requires.there (omega (arith, c.parent.ensures, c.if-parent-sets.false)) in
+    let placed = c.requires.well_formed.grown.links.placed c.args.root c.requires.in_range (omega (arith, c.parent.ensures, c.if-parent-sets.false)) in
     none_reached c.args.graph.now c.args.sets.now c.args.alone.now c.args.forest.now _ _ c.args.totals.now (sym (c.begin-begin.ensures ∙ placed.0))
 
 pub loop-q-preserved : goal.loop-q-preserved
 loop-q-preserved c =
-    position_next c.args.graph.now.vertices c.args.sets.now c.args.alone.now c.args.forest.now c.args.root c.begin-begin.result c.end-end.result c.requires.ready c.requires.there
+    position_next c.args.graph.now.vertices c.args.sets.now c.args.alone.now c.args.forest.now c.args.root c.begin-begin.result c.end-end.result c.requires.well_formed c.requires.in_range
     (omega (arith, c.parent.ensures, c.if-parent-sets.false)) c.begin-begin.ensures c.end-end.ensures c.args.graph.now c.put_stands.new.stands _ c.loop-q.q c.vertex-vertex.result
     c.args.totals.now c.loop-q.totals _ c.if-alone-root.false c.loop-q.auto.q c.loop-q-test.true c.vertex-vertex.ensures c.put_stands.ensures.stands c.add_at.ensures c.loop-q.invariant
 
@@ -96,8 +97,8 @@ pub returns : goal.returns
 returns c =
     let f = c.args.forest.now in
     let r = c.args.root in
-    let placed = c.requires.ready.grown.links.placed r c.requires.there (omega (arith, c.parent.ensures, c.if-parent-sets.false)) in
-    let forward : c.begin-begin.result ≤ c.end-end.result = omega (arith, (c.requires.ready.grown.forest.ordered r c.requires.there).0, c.begin-begin.ensures, c.end-end.ensures) in
+    let placed = c.requires.well_formed.grown.links.placed r c.requires.in_range (omega (arith, c.parent.ensures, c.if-parent-sets.false)) in
+    let forward : c.begin-begin.result ≤ c.end-end.result = omega (arith, (c.requires.well_formed.grown.forest.ordered r c.requires.in_range).0, c.begin-begin.ensures, c.end-end.ensures) in
     let end : c.end-end.result ≡ passed f (length c.args.sets.now) r = c.end-end.ensures ∙ placed.1 in
     let last : c.loop-q.q ≡ passed f (length c.args.sets.now) r = omega (arith, end, c.loop-q-test.false, c.loop-q.auto.q-end forward) in
     record {

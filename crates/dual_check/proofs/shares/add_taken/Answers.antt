@@ -24,8 +24,8 @@ add_unshared-requires-clause-with_vertex c = λ w.
     let same = c.in_ok-shares.ensures.exact w in
     sum-small (length c.args.sets.now) _ _ (omega arith) same r
 
-pub add_unshared-requires-clause-small : goal.add_unshared-requires-clause-small
-add_unshared-requires-clause-small c = λ e b.
+pub add_unshared-requires-clause-value_limit : goal.add_unshared-requires-clause-value_limit
+add_unshared-requires-clause-value_limit c = λ e b.
     let g = c.args.graph.now in
     let sets = c.args.sets.now in
     let taken = c.args.taken.now in
@@ -33,10 +33,10 @@ add_unshared-requires-clause-small c = λ e b.
     let within : IsEdgeWithin g.vertices edge = c.vertices.ensures.graph.ends (e - 1) no_edge (omega arith) in
     let u = left-within sets taken edge.u (other_end edge edge.u) c.requires.numbers in
     let v = left-within sets taken edge.v (other_end edge edge.v) c.requires.numbers in
-    let plain = c.requires.plain (e - 1) no_edge (omega (arith, b.0, b.1)) in
+    let plain = c.requires.loopless (e - 1) no_edge (omega (arith, b.0, b.1)) in
     let r = given-within edge (λ w. left_at sets taken w (other_end edge w)) g.vertices c.loop-k.k (nat_abs NUMBER_LIMIT * 2 ^ 64) within plain
     (omega (arith, ints, u.0), omega (arith, ints, u.1)) (omega (arith, ints, v.0), omega (arith, ints, v.1)) in
-    within-changed (total_at c.args.totals.now e) _ _ (c.loop-k.invariant.exact e b) (c.requires.small e b) r
+    within-changed (total_at c.args.totals.now e) _ _ (c.loop-k.invariant.exact e b) (c.requires.value_limit e b) r
 
 pub loop-k-preserved : goal.loop-k-preserved
 loop-k-preserved c =
@@ -75,7 +75,7 @@ returns c =
           let last : c.loop-k.k ≡ g.vertices = omega (arith, c.vertices-k-end.ensures.count) in
           c.loop-k.invariant.exact e b
           ∙ ap (λ z. total_at c.args.totals.now e +ℤ z) (ap (λ n. given_to edge (λ w. left_at c.args.sets.now c.args.taken.now w (other_end edge w)) n) last
-          ∙ all_given c.args.sets.now c.args.taken.now edge g.vertices within (c.requires.plain (e - 1) no_edge (omega (arith, b.0, b.1))));
+          ∙ all_given c.args.sets.now c.args.taken.now edge g.vertices within (c.requires.loopless (e - 1) no_edge (omega (arith, b.0, b.1))));
     }
 
 pub shares_of-requires-clause-forms : goal.shares_of-requires-clause-forms

@@ -39,7 +39,7 @@ share-requires c =
           (λ k d b. (let r = own.in_range k d b in omega (arith, r.1, ap length c.deref_mut.ensures.value ∙ c.loop-number.invariant.size)));
       ascending = subst IsStrictlyIncreasing (sym c.as_slice.ensures)
           (at_place (λ s. IsStrictlyIncreasing s.vertices) sets (get_or list i 0) c.index-sets-number.result c.requires.forms below c.index-sets-number.is);
-      small = λ v.
+      value_limit = λ v.
           let r = sum-within (λ a. dual_with sets v (get_or list a 0)) i (λ a b. listed_with sets list v a c.requires.numbers c.requires.list (omega arith)) in
           sum-small i _ _ (omega arith) (ap (λ (m : List ℤ). total_at m v) c.deref_mut.ensures.value ∙ c.loop-number.invariant.exact v) r;
       dual = subst IsNumber (sym same) (at_place (λ s. IsNumber s.dual) sets (get_or list i 0) c.index-sets-number.result c.requires.numbers below c.index-sets-number.is);

@@ -4,8 +4,8 @@ use Rattle.dual_check.specs.Crossed.{total_at}
 use Rattle.dual_check.proofs.GivenLemmas.{listed-within_all, slack_is}
 use Rattle.dual_check.proofs.slacks.first_slack_fault.Goals as goal
 
-pub slack_of-requires-clause-small : goal.slack_of-requires-clause-small
-slack_of-requires-clause-small c =
+pub slack_of-requires-clause-value_limit : goal.slack_of-requires-clause-value_limit
+slack_of-requires-clause-value_limit c =
     let whole : length c.edge_list-edge-items.result.now ≡ length c.args.graph.now.edges = ap length c.edge_list-edge-items.ensures.list in
     let exact = c.requires.totals.exact (c.loop-k.k + 1) (omega arith, omega arith) in
     let r = listed-within_all c.args.graph.now.vertices c.args.sets.now (edge_of c.args.graph.now (c.loop-k.k + 1)) c.requires.set_numbers in

@@ -4,4 +4,4 @@ use Rattle.dual_check.proofs.totals.add_to.Goals as goal
 
 pub returns-clause-exact : goal.returns-clause-exact
 returns-clause-exact c =
-    added_at c.args.totals.now c.args.place _ c.args.more c.requires.there (omega (arith, ints, c.requires.small.0, c.requires.small.1, c.requires.more.0, c.requires.more.1))
+    added_at c.args.totals.now c.args.place _ c.args.more c.requires.in_range (omega (arith, ints, c.requires.value_limit.0, c.requires.value_limit.1, c.requires.more.0, c.requires.more.1))

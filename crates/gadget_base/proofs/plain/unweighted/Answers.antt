@@ -51,12 +51,12 @@ loop-edge-preserved c =
           let added = w.graph-is ∙ w.in_ok-add.ensures.added in
           record {
             graph = added ∙ more true kept;
-            few = omega (arith, ap (λ g. length g.edges) added ∙ length_push old.edges (weightless (plain e)));
-            plain = subst HasNoLoop (sym added) (All-push (λ d. is_loop d ≡ false) old.edges (weightless (plain e)) c.loop-edge.invariant.plain (not-true (is_loop (plain e)) kept));
+            size_limit = omega (arith, ap (λ g. length g.edges) added ∙ length_push old.edges (weightless (plain e)));
+            loopless = subst HasNoLoop (sym added) (All-push (λ d. is_loop d ≡ false) old.edges (weightless (plain e)) c.loop-edge.invariant.loopless (not-true (is_loop (plain e)) kept));
           }
       | else-ne w ↦ record {
         graph = w.graph-is ∙ ap (λ es. record { vertices = old.vertices; edges = es }) (sym (append-nil old.edges)) ∙ more false (sym c.ne.ensures ∙ w.if-ne.false);
-        few = omega (arith, ap (λ g. length g.edges) w.graph-is);
-        plain = subst HasNoLoop (sym w.graph-is) c.loop-edge.invariant.plain;
+        size_limit = omega (arith, ap (λ g. length g.edges) w.graph-is);
+        loopless = subst HasNoLoop (sym w.graph-is) c.loop-edge.invariant.loopless;
       }
     ]

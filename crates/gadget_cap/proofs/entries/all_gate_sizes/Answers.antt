@@ -36,5 +36,5 @@ returns c =
     record {
       size = omega (arith, list, c.loop-edge.invariant.size, c.loop-edge-test.false, c.loop-edge.auto.edge-index-end);
       each = λ k b. c.loop-edge.invariant.each k (omega (arith, b, list, c.loop-edge-test.false));
-      few = c.edge_list-edge-items.ensures.network.few_edges;
+      size_limit = c.edge_list-edge-items.ensures.network.few_edges;
     }

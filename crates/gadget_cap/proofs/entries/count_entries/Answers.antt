@@ -34,7 +34,13 @@ overflow_add-index_mut c =
     let some : (k < length i.edges) × (enters i room k c.edge-item.result ≡ true) = subst (IsEntry i room c.edge-item.result) c.in-Some.is c.entered_by.ensures in
     let count = count_read i room front c.loop-edge.counts.items k c.index_mut.result.now c.loop-edge.invariant.counts some.0 c.index_mut.ensures.value in
     let inside = c.loop-edge-test.true in
-    omega (arith, count, c.requires.few c.edges-count.ensures.network, count_by-le-length (enters i room k) front, length-take-le c.loop-edge.edge-index c.args.edges.now (omega arith))
+    omega (
+      arith,
+      count,
+      c.requires.size_limit c.edges-count.ensures.network,
+      count_by-le-length (enters i room k) front,
+      length-take-le c.loop-edge.edge-index c.args.edges.now (omega arith),
+    )
 
 pub loop-edge-init : goal.loop-edge-init
 loop-edge-init c =

@@ -5,8 +5,8 @@ use Rattle.gadget_cap.specs.Places.{entry_counts}
 use Rattle.gadget_cap.proofs.Extracted.{few-listed, extracted-feasible, extracted-weight}
 use Rattle.gadget_cap.proofs.entries.extract.Goals as goal
 
-pub count_entries-requires-clause-few : goal.count_entries-requires-clause-few
-count_entries-requires-clause-few c = λ net. few-listed c.args.unit c.args.instance.now c.args.edges.now net c.requires.perfect
+pub count_entries-requires-clause-size_limit : goal.count_entries-requires-clause-size_limit
+count_entries-requires-clause-size_limit c = λ net. few-listed c.args.unit c.args.instance.now c.args.edges.now net c.requires.perfect
 
 pub returns : goal.returns
 returns c =

@@ -10,6 +10,6 @@ returns c =
     record {
       graph = c.halves_of.ensures;
       size = sized i;
-      plain = IfOk-weaker c.halves_of.result _ _ (λ h is. subst HasNoLoop (sym is) (halves-no_loop i c.vertices.ensures.network)) c.halves_of.ensures;
+      loopless = IfOk-weaker c.halves_of.result _ _ (λ h is. subst HasNoLoop (sym is) (halves-no_loop i c.vertices.ensures.network)) c.halves_of.ensures;
       reached = reached i c.vertices.ensures.network;
     }

@@ -5,11 +5,11 @@ use Rattle.gadget_interval.proofs.Parts.{upper-numbers, upper-counts}
 use Rattle.gadget_interval.proofs.Back.{are_halves}
 use Rattle.gadget_interval.proofs.lighter.both_answers.Goals as goal
 
-pub part_answer-requires-clause-few : goal.part_answer-requires-clause-few
-part_answer-requires-clause-few c = (are_halves c.args.instance.now c.args.edges.now c.edges.ensures.network c.requires.perfect).few
+pub part_answer-requires-clause-size_limit : goal.part_answer-requires-clause-size_limit
+part_answer-requires-clause-size_limit c = (are_halves c.args.instance.now c.args.edges.now c.edges.ensures.network c.requires.perfect).size_limit
 
-pub part_answer-requires-2-clause-few : goal.part_answer-requires-2-clause-few
-part_answer-requires-2-clause-few c = (are_halves c.args.instance.now c.args.edges.now c.edges.ensures.network c.requires.perfect).few
+pub part_answer-requires-2-clause-size_limit : goal.part_answer-requires-2-clause-size_limit
+part_answer-requires-2-clause-size_limit c = (are_halves c.args.instance.now c.args.edges.now c.edges.ensures.network c.requires.perfect).size_limit
 
 pub part_answer-requires-clause-numbers : goal.part_answer-requires-clause-numbers
 part_answer-requires-clause-numbers c = upper-numbers c.args.upper.now 0 c.gadget_size-size.result.1 c.args.edges.now c.gadget_size-size.ensures.edges

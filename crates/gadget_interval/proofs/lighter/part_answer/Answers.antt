@@ -3,8 +3,8 @@ use Rattle.gadget_interval.specs.Halves.{listed_after}
 use Rattle.gadget_interval.proofs.Parts.{after-length}
 use Rattle.gadget_interval.proofs.lighter.part_answer.Goals as goal
 
-pub count_entries-requires-clause-few : goal.count_entries-requires-clause-few
-count_entries-requires-clause-few c = λ _.
+pub count_entries-requires-clause-size_limit : goal.count_entries-requires-clause-size_limit
+count_entries-requires-clause-size_limit c = λ _.
     let part = listed_after c.args.before c.args.count c.args.edges.now in
     let same : length c.deref.result.now ≡ length part = ap (λ (xs : List ℕ). length xs) (c.deref.ensures.value ∙ c.in_ok-part.ensures) in
-    omega (arith, same, after-length c.args.before c.args.count c.args.edges.now, c.requires.few)
+    omega (arith, same, after-length c.args.before c.args.count c.args.edges.now, c.requires.size_limit)

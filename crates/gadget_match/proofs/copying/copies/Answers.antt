@@ -8,4 +8,4 @@ returns c =
     let i = c.args.instance.now in
     let network = c.vertices.ensures.network in
     let plain = IfOk-weaker c.build.result (λ h. h ≡ copies_graph i) HasNoLoop (λ h is. subst HasNoLoop (sym is) (copies-no_loop i network)) c.build.ensures in
-    record { graph = c.build.ensures; size = copies_size i; plain = plain; reached = copies_reach i network }
+    record { graph = c.build.ensures; size = copies_size i; loopless = plain; reached = copies_reach i network }

@@ -7,16 +7,16 @@ use Rattle.gadget_match.proofs.gathering.add_pairs.Goals as goal
 pub loop-edge-init : goal.loop-edge-init
 loop-edge-init c = record {
   size = c.requires.size;
-  small = λ k b. let size : length c.args.counts.now ≡ length c.args.instance.now.edges = c.requires.size in let none : slice_index c.args.counts.now k ≡ 0 =
+  value_limit = λ k b. let size : length c.args.counts.now ≡ length c.args.instance.now.edges = c.requires.size in let none : slice_index c.args.counts.now k ≡ 0 =
       c.requires.start k (omega (arith, size, b)) in omega (arith, none);
   each = λ k b. let size : length c.args.counts.now ≡ length c.args.instance.now.edges = c.requires.size in c.requires.start k (omega (arith, size, b))
       ∙ sym (listed-none c.args.instance.now k);
 }
 
-pub add_one-requires-clause-small : goal.add_one-requires-clause-small
-add_one-requires-clause-small c =
+pub add_one-requires-clause-value_limit : goal.add_one-requires-clause-value_limit
+add_one-requires-clause-value_limit c =
     let more : length c.args.starts.now ≡ length c.args.instance.now.edges + 1 = c.requires.starts.one_more in
-    omega (arith, c.loop-edge.invariant.small c.find_block-place.result (omega (arith, more, c.find_block-place.ensures.inside)), c.requires.few)
+    omega (arith, c.loop-edge.invariant.value_limit c.find_block-place.result (omega (arith, more, c.find_block-place.ensures.inside)), c.requires.size_limit)
 
 pub loop-edge-preserved : goal.loop-edge-preserved
 loop-edge-preserved c =
@@ -37,7 +37,7 @@ loop-edge-preserved c =
     let grown : (k : ℕ) → k < length i.edges → slice_index c.add_one.new.counts k ≡ slice_index old k + cond (eqb p k) 1 0 = λ k b. c.add_one.ensures.each k (omega (arith, size, b)) in
     record {
       size = let same : length c.add_one.new.counts ≡ length old = c.add_one.ensures.size in same ∙ size;
-      small = λ k b. let one = grown k b in let before = c.loop-edge.invariant.small k b in let most = test-small (eqb p k) in omega (arith, one, before, most);
+      value_limit = λ k b. let one = grown k b in let before = c.loop-edge.invariant.value_limit k b in let most = test-small (eqb p k) in omega (arith, one, before, most);
       each = λ k b.
           let before : slice_index old k ≡ listed_pairs i (take n edges) k = c.loop-edge.invariant.each k b in
           omega (arith, grown k b, before, listed-more i starts edges n p k c.requires.starts c.loop-edge-test.true low below (omega (arith, place, begun)) (omega (arith, place, ends)));

@@ -7,8 +7,8 @@ use Rattle.gadget_match.proofs.gathering.extract_copies.Goals as goal
 pub count_pairs-requires-clause-numbers : goal.count_pairs-requires-clause-numbers
 count_pairs-requires-clause-numbers c = pair-numbers c.args.instance.now c.args.edges.now c.requires.perfect
 
-pub count_pairs-requires-clause-few : goal.count_pairs-requires-clause-few
-count_pairs-requires-clause-few c = copies-few c.args.instance.now c.args.edges.now c.in_ok-starts.ensures.network c.requires.perfect
+pub count_pairs-requires-clause-size_limit : goal.count_pairs-requires-clause-size_limit
+count_pairs-requires-clause-size_limit c = copies-few c.args.instance.now c.args.edges.now c.in_ok-starts.ensures.network c.requires.perfect
 
 pub returns : goal.returns
 returns c =

@@ -26,8 +26,8 @@ returns-clause-feasible c =
     answer-feasible c.args.odd c.args.instance.now c.args.edges.now c.in_ok-join.join.edges c.single_join.ensures.network c.requires.perfect c.in_ok-join.ensures.singles
     c.ends-s.result.0 c.ends-s.result.1 c.in_ok-answer.answer c.ends-s.ensures c.in_ok-answer.ensures.path
 
-pub returns-clause-few : goal.returns-clause-few
-returns-clause-few c =
+pub returns-clause-size_limit : goal.returns-clause-size_limit
+returns-clause-size_limit c =
     answer-few c.args.instance.now c.ends-s.result.0 c.ends-s.result.1 c.in_ok-join.join.edges c.in_ok-answer.answer c.single_join.ensures.network c.in_ok-answer.ensures.path
 
 pub returns-clause-weighs : goal.returns-clause-weighs

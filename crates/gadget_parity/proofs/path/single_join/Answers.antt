@@ -12,7 +12,7 @@ marked-requires c =
     let size : length c.deref-2.result.now ≡ length i.edges = ap (λ (xs : List Bool). length xs) (c.deref-2.ensures.value ∙ c.in_ok-singles.ensures)
     ∙ tabled-length took (length i.edges) in
     let few : length i.edges ≤ 65536 = c.edges-room.ensures.network.few_edges in
-    record { few = omega (arith, size, few) }
+    record { size_limit = omega (arith, size, few) }
 
 pub returns-clause-singles : goal.returns-clause-singles
 returns-clause-singles c =

@@ -27,9 +27,9 @@ loop-edge-preserved c =
       so_far = next-single one two listed i k e place x y _ c.loop-edge.marks.items c.push.new.self.items here c.loop-edge.invariant.place reads
           c.loop-edge.invariant.so_far c.in_ok-push.ensures.items;
       place = next;
-      few = omega (
+      size_limit = omega (
         arith,
-        c.loop-edge.invariant.few,
+        c.loop-edge.invariant.size_limit,
         c.from.ensures,
         c.from-in-loop-edge.ensures,
         as_number c.has_copy-one.result,

@@ -8,5 +8,5 @@ abbrev pub invariant-loop-edge : goal.invariant-loop-edge
 invariant-loop-edge l = record {
   so_far : l.marks.items ≡ tabled (takes_one (is_marked l.first) (is_marked l.second) l.instance (is_marked l.listed)) l.edge-index;
   place : l.place ≡ first_place (is_marked l.first) (is_marked l.second) l.instance l.edge-index;
-  few : l.place ≤ 2 * l.edge-index;
+  size_limit : l.place ≤ 2 * l.edge-index;
 }

@@ -15,7 +15,7 @@ returns c =
     record {
       graph = c.build.ensures.graph;
       size = ports_sized i odd;
-      plain = if_that HasNoLoop c.build.result (ports_graph i odd) c.build.ensures.graph (ports-no_loop i odd network);
+      loopless = if_that HasNoLoop c.build.result (ports_graph i odd) c.build.ensures.graph (ports-no_loop i odd network);
       reached = reaches-joins parity i network;
       tjoin = reaches_tjoins parity i network;
       postman = reaches_tours parity i network;

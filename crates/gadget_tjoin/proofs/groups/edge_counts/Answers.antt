@@ -14,6 +14,6 @@ returns c =
     record {
       size = ap length is ∙ same ∙ ap length zeros ∙ length-replicate c.vertices.result 0 ∙ c.vertices.ensures.count;
       each = λ k b. ap (λ (xs : List ℕ). slice_index xs k) is ∙ c.count_edges.ensures.counts k b;
-      small = λ k b. let at = ap (λ (xs : List ℕ). slice_index xs k) is in omega (arith, at, c.count_edges.ensures.small k b);
+      value_limit = λ k b. let at = ap (λ (xs : List ℕ). slice_index xs k) is in omega (arith, at, c.count_edges.ensures.value_limit k b);
       network = c.vertices.ensures.network;
     }

@@ -9,7 +9,7 @@ ports_by-ports-requires c =
     let k = c.loop-k.k in
     let counts = c.in_ok-counts.ensures in
     let below : k < vertices c.args.instance.now = omega (arith, ap (λ (xs : List ℕ). length xs) c.value_list-value-items.ensures.list, c.loop-k-test.true) in
-    omega (arith, get_or_read c.in_ok-counts.counts.items k c.index.result.now (omega (arith, counts.size, below)) c.index.ensures 0, counts.small k below)
+    omega (arith, get_or_read c.in_ok-counts.counts.items k c.index.result.now (omega (arith, counts.size, below)) c.index.ensures 0, counts.value_limit k below)
 
 pub loop-k-preserved : goal.loop-k-preserved
 loop-k-preserved c =

@@ -14,5 +14,5 @@ returns c =
     let es = c.in_ok-edges.edges.items in
     let listed = c.from_vec.ensures ∙ c.in_ok-all.ensures ∙ rw (c.deref-2.ensures.value, c.deref.ensures.value) refl in
     matched-found c.args.instance.now c.args.engine.now c.args.graph.now numbers es c.from_vec.result c.new.result c.new-2.result c.new-3.result c.requires.network c.laws.ensures.paths
-    c.laws.ensures.loops c.requires.graph c.requires.same c.in_ok-numbers.ensures c.requires.ends c.in_ok-edges.ensures.counts c.in_ok-edges.ensures.ascending listed
+    c.laws.ensures.loops c.requires.graph c.requires.same_graph c.in_ok-numbers.ensures c.requires.ends c.in_ok-edges.ensures.counts c.in_ok-edges.ensures.ascending listed
     c.new.ensures c.new-2.ensures c.new-3.ensures

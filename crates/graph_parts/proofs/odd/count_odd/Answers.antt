@@ -13,7 +13,7 @@ loop-number-init c =
       size = c.in_ok-seen.ensures.size ∙ omega arith;
       seen = λ removed is. seen-none c.args.graph.now removed c.in_ok-seen.seen.items c.in_ok-seen.ensures.none;
       counts = λ removed is. counts-none c.args.graph.now removed;
-      small = omega arith;
+      value_limit = omega arith;
     }
 
 pub visit-requires : goal.visit-requires
@@ -39,7 +39,7 @@ loop-number-preserved c =
         | then-branch w ↦ w.count-is ∙ ap (λ t. cond t (c.loop-number.count + 1) c.loop-number.count) (sym w.if-branch.true)
         | else-branch w ↦ w.count-is ∙ ap (λ t. cond t (c.loop-number.count + 1) c.loop-number.count) (sym w.if-branch.false)
       ]);
-      small = elim c.if-branch.branch [ then-branch w ↦ omega arith | else-branch w ↦ omega arith ];
+      value_limit = elim c.if-branch.branch [ then-branch w ↦ omega arith | else-branch w ↦ omega arith ];
     }
 
 pub returns : goal.returns

@@ -9,5 +9,5 @@ invariant-loop-number l = record {
   size : length l.seen.items ≡ l.graph.vertices + 1;
   seen : (removed : List ℕ) → MarksSet l.out removed → SeenBelow l.graph removed (l.number + 1) l.seen.items;
   counts : (removed : List ℕ) → MarksSet l.out removed → CountsBelow l.graph removed (l.number + 1) l.count;
-  small : l.count ≤ l.number;
+  value_limit : l.count ≤ l.number;
 }

@@ -19,7 +19,7 @@ loop-number-init c =
       size = c.in_ok-seen.ensures.size ∙ omega arith;
       seen = λ removed is. seen-none g removed c.in_ok-seen.seen.items c.in_ok-seen.ensures.none;
       counts = λ removed is. counts-none g removed;
-      small = omega arith;
+      value_limit = omega arith;
       inside = λ removed is. inside-none g removed c.args.inside.now;
     }
 
@@ -77,7 +77,7 @@ loop-number-preserved c =
         | then-branch+else-not-are_all_inside w ↦ w.count-is ∙ ap (λ t. cond t (c.loop-number.count + 1) c.loop-number.count) (sym w.if-branch.true)
         | else-branch w ↦ w.count-is ∙ ap (λ t. cond t (c.loop-number.count + 1) c.loop-number.count) (sym w.if-branch.false)
       ]);
-      small = elim c.if-branch.branch [ then-branch+else-not-are_all_inside w ↦ omega arith | else-branch w ↦ omega arith ];
+      value_limit = elim c.if-branch.branch [ then-branch+else-not-are_all_inside w ↦ omega arith | else-branch w ↦ omega arith ];
       inside = λ removed is. inside-more g removed c.args.inside.now v (old.inside removed is) (elim c.if-branch.branch [
         | then-branch+else-not-are_all_inside w ↦
             let all : All (λ u. is_inside c.args.inside.now u ≡ true) c.visit.new.reached.items =

@@ -1,5 +1,5 @@
 use Rattle.alt_forest.proofs.Common.{◌≡◌, ◌∙◌, ℕ, ap, ◌<◌, pos, None, List, length, refl, sym, subst, arith, ⊎_elim, eqb-true, ints, state_of, incidence_leads}
-use Rattle.search_lists.specs.declared.incident_edges.IncidentEdge.{IncidentEdge}
+use Rattle.search_tables.specs.declared.incident_edges.IncidentEdge.{IncidentEdge}
 use Rattle.greedy_start.specs.Starts.{IsAbove, IsRise}
 use Rattle.greedy_start.specs.declared.pairing.Rise.{Rise}
 use Rattle.greedy_start.proofs.LeastSeen.{seen_first, seen_one, seen_around, some_there, count_around}
@@ -14,7 +14,7 @@ rise_by-least-requires g c =
     let xs : List IncidentEdge = c.at-incidence.result.now in
     record {
       sound = c.requires.sound;
-      begun = c.requires.begun;
+      started = c.requires.started;
       vertex = c.requires.vertex;
       incident = incidence_leads c.args.search.now c.args.v xs 0 c.index-incidence-0.result c.requires.sound.shape c.requires.vertex c.at-incidence.ensures.list
           (some_there xs c.is_empty.result c.is_empty.ensures c.if-is_empty.false) c.index-incidence-0.is;
@@ -33,7 +33,7 @@ loop-place-init g c =
 pub rise_by-requires : goal.rise_by-requires
 rise_by-requires g c = record {
   sound = c.requires.sound;
-  begun = c.requires.begun;
+  started = c.requires.started;
   vertex = c.requires.vertex;
   incident = incidence_leads c.args.search.now c.args.v c.at-incidence.result.now c.loop-place.place c.index-incidence-place.result c.requires.sound.shape
       c.requires.vertex c.at-incidence.ensures.list (omega arith) c.index-incidence-place.is;
@@ -63,7 +63,7 @@ returns-then-is_last g c =
       rise = i.rise;
       none = λ none. zero;
       above = λ e is t. ((let low = c.requires.sound.state.slacks e is in omega (arith, ints, zero, low)), λ can. last.mate c.if-is_last.true);
-      looks = omega (arith, c.at-incidence.ensures.counted, count);
+      inspections = omega (arith, c.at-incidence.ensures.counted, count);
     }
 
 pub returns-then-is_empty : goal.returns-then-is_empty
@@ -75,7 +75,7 @@ returns-then-is_empty g c =
     let count = count_around s c.args.v xs c.requires.sound.shape c.requires.vertex list in
     let above = seen_around s c.args.v (IsAbove (state_of s) c.args.v (pos 0) None) xs 0 c.requires.sound.shape c.requires.vertex list (omega (arith, none))
     (λ k d low b. absurd {0} (omega (arith, b))) in
-    record { rise = rise; none = λ h. refl; above = above; looks = omega (arith, c.at-incidence.ensures.counted, count) }
+    record { rise = rise; none = λ h. refl; above = above; inspections = omega (arith, c.at-incidence.ensures.counted, count) }
 
 pub returns : goal.returns
 returns g c =
@@ -88,5 +88,5 @@ returns g c =
       none = λ none. absurd {0} (omega (arith, some, count, ap (λ (ys : List ℕ). length ys) none));
       above = seen_around s c.args.v (IsAbove (state_of s) c.args.v c.loop-place.least.by c.loop-place.least.mate) xs c.loop-place.place c.requires.sound.shape c.requires.vertex list
           (omega arith) i.seen;
-      looks = omega (arith, c.at-incidence.ensures.counted, count);
+      inspections = omega (arith, c.at-incidence.ensures.counted, count);
     }

@@ -1,5 +1,5 @@
 use Rattle.alt_forest.proofs.Common.{◌≡◌, ℕ, ℤ, ◌<◌, List, length, refl, sym, subst, arith, ⊎_elim, ints, Multigraph, edge_of, other_end, slack_of, state_of, incidence_leads}
-use Rattle.search_lists.specs.declared.incident_edges.IncidentEdge.{IncidentEdge}
+use Rattle.search_tables.specs.declared.incident_edges.IncidentEdge.{IncidentEdge}
 use Rattle.greedy_start.specs.Sweeps.{IsReach, IsBehind, IsLead}
 use Rattle.greedy_start.specs.declared.reaching.Lead.{Lead}
 use Rattle.greedy_start.specs.declared.reaching.Reach.{Reach}
@@ -23,7 +23,7 @@ reach_by-least-requires g c =
     let xs : List IncidentEdge = c.at-incidence.result.now in
     record {
       sound = c.requires.sound;
-      begun = c.requires.begun;
+      started = c.requires.started;
       vertex = c.requires.vertex;
       incident = incidence_leads c.args.search.now c.args.v xs 0 c.index-incidence-0.result c.requires.sound.shape c.requires.vertex c.at-incidence.ensures.list
           (some_there xs c.is_empty.result c.is_empty.ensures c.if-is_empty.false) c.index-incidence-0.is;
@@ -46,7 +46,7 @@ loop-place-init g c =
 pub reach_by-reach-requires : goal.reach_by-reach-requires
 reach_by-reach-requires g c = record {
   sound = c.requires.sound;
-  begun = c.requires.begun;
+  started = c.requires.started;
   vertex = c.requires.vertex;
   incident = incidence_leads c.args.search.now c.args.v c.at-incidence.result.now c.loop-place.place c.index-incidence-place.result c.requires.sound.shape c.requires.vertex
       c.at-incidence.ensures.list (omega arith) c.index-incidence-place.is;
@@ -80,13 +80,13 @@ returns-clause-lead g c =
           c.requires.vertex c.at-incidence.ensures.list (omega (arith, c.loop-place-test.false)) i.seen;
     })
 
-pub returns-clause-looks : goal.returns-clause-looks
-returns-clause-looks g c =
+pub returns-clause-inspections : goal.returns-clause-inspections
+returns-clause-inspections g c =
     omega (arith, c.at-incidence.ensures.counted, count_around c.args.search.now c.args.v c.at-incidence.result.now c.requires.sound.shape c.requires.vertex c.at-incidence.ensures.list)
 
 pub returns-then-is_empty : goal.returns-then-is_empty
 returns-then-is_empty g c = record {
   lead = λ x none. cc;
-  looks =
+  inspections =
       omega (arith, c.at-incidence.ensures.counted, count_around c.args.search.now c.args.v c.at-incidence.result.now c.requires.sound.shape c.requires.vertex c.at-incidence.ensures.list);
 }

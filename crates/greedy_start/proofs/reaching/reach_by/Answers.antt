@@ -17,6 +17,6 @@ returns-clause-reach c =
       far_vertex = leads_vertex s.graph p.edge c.args.v p.far p.weight graph to;
       slack_is = is;
       low = subst (λ x. pos 0 ≤ℤ x) is (h.state.slacks p.edge to.number);
-      high = subst (λ x. x ≤ℤ (pos 4 *ℤ WEIGHT_LIMIT)) is (slack_most (state_of s) s.start p.edge graph c.requires.begun to.number);
-      even = subst (λ x. SameParity x (pos 0)) is (slack_even (state_of s) s.start p.edge graph.ends c.requires.begun to.number);
+      high = subst (λ x. x ≤ℤ (pos 4 *ℤ WEIGHT_LIMIT)) is (slack_most (state_of s) s.start p.edge graph c.requires.started to.number);
+      even = subst (λ x. SameParity x (pos 0)) is (slack_even (state_of s) s.start p.edge graph.ends c.requires.started to.number);
     }

@@ -21,7 +21,7 @@ returns-in-Zero c =
     let back : to_z w64 (of_z w64 (pos 0 -ℤ to_z w64 (of_z w64 d))) ≡ pos 0 -ℤ d = search rules in
     record {
       slack = back ∙ sym (ap (λ (w : Weights). cond (is_given w) (pos 2 *ℤ p.weight) (pos 0) -ℤ d) c.in-Zero.is)
-          ∙ slack_seen (state_of s) p.edge c.args.v p.far p.weight d c.requires.begun.alone c.both_duals-duals.ensures.sum c.requires.incident;
+          ∙ slack_seen (state_of s) p.edge c.args.v p.far p.weight d c.requires.started.alone c.both_duals-duals.ensures.sum c.requires.incident;
     }
 
 pub returns-in-Given : goal.returns-in-Given
@@ -34,5 +34,5 @@ returns-in-Given c =
     record {
       slack = back ∙ ap (λ x. x -ℤ d) (c.twice.ensures.twice ∙ ap (λ x. pos 2 *ℤ x) kept)
           ∙ sym (ap (λ (w : Weights). cond (is_given w) (pos 2 *ℤ p.weight) (pos 0) -ℤ d) c.in-Given.is)
-          ∙ slack_seen (state_of s) p.edge c.args.v p.far p.weight d c.requires.begun.alone c.both_duals-duals.ensures.sum c.requires.incident;
+          ∙ slack_seen (state_of s) p.edge c.args.v p.far p.weight d c.requires.started.alone c.both_duals-duals.ensures.sum c.requires.incident;
     }

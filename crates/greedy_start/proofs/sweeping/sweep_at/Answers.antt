@@ -15,24 +15,24 @@ returns-then-not-is_exposed g c =
     let s = state_of c.args.search.now in
     record {
       sound = c.requires.sound;
-      begun = c.requires.begun;
-      rest = refl;
-      still = λ _. refl;
+      started = c.requires.started;
+      frame = refl;
+      unchanged = λ _. refl;
       exact = turn_passed s c.args.v _ _
           (λ x. both_ways c.is_exposed.result c.if-not-is_exposed.true (c.is_exposed.ensures.1 (subst (IsExposed s) (sym (c.new.ensures ∙ c.number.ensures)) x)));
     }
 
 pub lead_at-requires : goal.lead_at-requires
-lead_at-requires g c = record { sound = c.requires.sound; begun = c.requires.begun; vertex = c.requires.vertex }
+lead_at-requires g c = record { sound = c.requires.sound; started = c.requires.started; vertex = c.requires.vertex }
 
 pub returns-in_default : goal.returns-in_default
 returns-in_default g c =
     let s = state_of c.args.search.now in let x : IsExposed s c.args.v = subst (IsExposed s) (c.new.ensures ∙ c.number.ensures) (c.is_exposed.ensures.0 c.if-not-is_exposed.false) in
-    record { sound = c.requires.sound; begun = c.requires.begun; rest = refl; still = λ none. refl; exact = turn_taken s c.args.v _ _ _ x c.lead_at.ensures.looks }
+    record { sound = c.requires.sound; started = c.requires.started; frame = refl; unchanged = λ none. refl; exact = turn_taken s c.args.v _ _ _ x c.lead_at.ensures.inspections }
 
 pub fall_for-requires : goal.fall_for-requires
 fall_for-requires g c =
-    record { sound = c.requires.sound; begun = c.requires.begun; vertex = c.requires.vertex; lead = c.lead_at.ensures.lead c.in-Some.lead c.in-Some.is }
+    record { sound = c.requires.sound; started = c.requires.started; vertex = c.requires.vertex; lead = c.lead_at.ensures.lead c.in-Some.lead c.in-Some.is }
 
 pub take_partner-requires : goal.take_partner-requires
 take_partner-requires g c =
@@ -40,7 +40,7 @@ take_partner-requires g c =
     let back : to_z w64 (of_z w64 fall) ≡ fall = search rules in
     record {
       sound = c.requires.sound;
-      begun = c.requires.begun;
+      started = c.requires.started;
       weights = c.requires.weights;
       vertex = c.requires.vertex;
       exposed = subst (IsExposed (state_of s)) (c.new.ensures ∙ c.number.ensures) (c.is_exposed.ensures.0 c.if-not-is_exposed.false);
@@ -54,10 +54,10 @@ returns-in-Some-fall_for g c =
     let s = state_of c.args.search.now in let x : IsExposed s c.args.v = subst (IsExposed s) (c.new.ensures ∙ c.number.ensures) (c.is_exposed.ensures.0 c.if-not-is_exposed.false) in
     record {
       sound = e.sound;
-      begun = e.begun;
-      rest = e.rest;
-      still = λ none. absurd (turn_still s c.args.v x none);
-      exact = turn_taken s c.args.v _ _ _ x c.lead_at.ensures.looks;
+      started = e.started;
+      frame = e.frame;
+      unchanged = λ none. absurd (turn_still s c.args.v x none);
+      exact = turn_taken s c.args.v _ _ _ x c.lead_at.ensures.inspections;
     }
 
 pub move_dual-requires : goal.move_dual-requires
@@ -67,10 +67,10 @@ move_dual-requires g c =
     let exposed : IsExposed (state_of s) c.args.v = subst (IsExposed (state_of s)) (c.new.ensures ∙ c.number.ensures) (c.is_exposed.ensures.0 c.if-not-is_exposed.false) in
     record {
       sound = c.requires.sound;
-      begun = c.requires.begun;
+      started = c.requires.started;
       vertex = c.requires.vertex;
-      can = subst (CanMove (state_of s) s.start c.args.v) (sym back)
-          (lead_rises (state_of s) s.start c.args.v l c.requires.sound.shape.graph.graph c.requires.begun c.requires.vertex (c.lead_at.ensures.lead l c.in-Some.is) exposed);
+      possible = subst (CanMove (state_of s) s.start c.args.v) (sym back)
+          (lead_rises (state_of s) s.start c.args.v l c.requires.sound.shape.graph.graph c.requires.started c.requires.vertex (c.lead_at.ensures.lead l c.in-Some.is) exposed);
     }
 
 pub returns : goal.returns
@@ -80,8 +80,8 @@ returns g c =
     let x : IsExposed (state_of s) c.args.v = subst (IsExposed (state_of s)) (c.new.ensures ∙ c.number.ensures) (c.is_exposed.ensures.0 c.if-not-is_exposed.false) in
     record {
       sound = e.sound;
-      begun = e.begun;
-      rest = e.rest ∙ ap (λ m. record s { arena = record s.arena { duals = t.arena.duals }; mates = m }) (sym (ap (λ (x : Search). x.mates) e.rest));
-      still = λ none. absurd (turn_still (state_of s) c.args.v x none);
-      exact = turn_taken (state_of s) c.args.v _ _ _ x c.lead_at.ensures.looks;
+      started = e.started;
+      frame = e.frame ∙ ap (λ m. record s { arena = record s.arena { duals = t.arena.duals }; mates = m }) (sym (ap (λ (x : Search). x.mates) e.frame));
+      unchanged = λ none. absurd (turn_still (state_of s) c.args.v x none);
+      exact = turn_taken (state_of s) c.args.v _ _ _ x c.lead_at.ensures.inspections;
     }

@@ -16,17 +16,17 @@ returns g c =
     let n : ℕ = c.args.search.now.graph.vertices in
     let ten : 10 ≤ n = omega (arith, c.if-vertices-lt10.false, c.vertices.ensures.count) in
     let some : c.args.search.now.weights ≢ Zero = search rules in
-    let after : c.sweep_all.new.search.graph ≡ c.args.search.now.graph = ap (λ (x : Search). x.graph) one.rest in
-    let last : c.sweep_all-2.new.search.graph ≡ c.args.search.now.graph = ap (λ (x : Search). x.graph) two.rest ∙ after in
-    let second = subst (λ (k : Multigraph). c.sweep_all-2.new.steps ≤ c.sweep_all.new.steps + 2 * length k.edges) after two.looks in
-    let third = subst (λ (k : Multigraph). c.start_all.new.steps ≤ c.sweep_all-2.new.steps + 2 * length k.edges) last e.looks in
-    let looks = three_rounds n (length c.args.search.now.graph.edges) c.args.steps.now _ _ _ ten one.looks second third in
+    let after : c.sweep_all.new.search.graph ≡ c.args.search.now.graph = ap (λ (x : Search). x.graph) one.frame in
+    let last : c.sweep_all-2.new.search.graph ≡ c.args.search.now.graph = ap (λ (x : Search). x.graph) two.frame ∙ after in
+    let second = subst (λ (k : Multigraph). c.sweep_all-2.new.steps ≤ c.sweep_all.new.steps + 2 * length k.edges) after two.inspections in
+    let third = subst (λ (k : Multigraph). c.start_all.new.steps ≤ c.sweep_all-2.new.steps + 2 * length k.edges) last e.inspections in
+    let looks = three_rounds n (length c.args.search.now.graph.edges) c.args.steps.now _ _ _ ten one.inspections second third in
     record {
       sound = e.sound;
-      begun = e.begun;
-      rest = rw (e.rest, two.rest, one.rest) refl;
+      started = e.started;
+      frame = rw (e.frame, two.frame, one.frame) refl;
       maximal = e.maximal;
-      looks = looks;
+      inspections = looks;
       flat = λ zero. absurd (some zero);
       made = λ given many v first. let first_sweep = one.made v first in omega (arith, first_sweep, two.grows, e.grows);
     }

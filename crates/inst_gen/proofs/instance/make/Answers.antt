@@ -21,8 +21,8 @@ returns-clause-made c =
     IfOk-weaker c.from_values.result (λ i. i ≡ valued c.in_ok-edges.edges.items c.in_ok-values.values.items) (λ i. i ≡ made kind c.args.start n m)
     (λ i is. is ∙ same) c.from_values.ensures
 
-pub returns-clause-ready : goal.returns-clause-ready
-returns-clause-ready c = IfOk-weaker c.from_values.result (λ i. i ≡ made c.args.kind c.args.start c.args.n c.args.m) (IsReady c.args.kind)
+pub returns-clause-well_formed : goal.returns-clause-well_formed
+returns-clause-well_formed c = IfOk-weaker c.from_values.result (λ i. i ≡ made c.args.kind c.args.start c.args.n c.args.m) (IsReady c.args.kind)
     (λ i is. subst (IsReady c.args.kind) (sym is) (made_is_ready c.args.kind c.args.start c.args.n c.args.m c.requires.path)) (returns-clause-made c)
 
 pub returns-clause-network : goal.returns-clause-network

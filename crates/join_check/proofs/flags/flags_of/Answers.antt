@@ -1,4 +1,5 @@
-use Rattle.mb_problem.proofs.Common.{◌≡◌, ℕ, ◌+◌, ◌-◌, ◌%◌, ◌<◌, false, eqb, ap, sym, ◌∙◌, subst, inl, inr, arith, List, slice_index, slice_index_or, cases_eq, set, length-set, get_or-set_same}
+use Rattle.mb_problem.proofs.Common.{◌≡◌, ℕ, ◌+◌, ◌-◌, ◌%◌, ◌<◌, false, eqb, ap, sym, ◌∙◌, subst, inl, inr, arith, List, slice_index, slice_index_or, cases_eq, set, length-set}
+use Rattle.mb_problem.proofs.Common.{get_or-set_same}
 use Rattle.mb_problem.proofs.Common.{get_or-set_other, get_or_read, vertices}
 use Rattle.graph_theory.proofs.Common.{ap₂}
 use Rattle.mb_problem.specs.Degrees.{AreDegrees}
@@ -22,7 +23,8 @@ loop-vertex-preserved c =
     record {
       size = length-set old k c.is_odd.result ∙ c.loop-vertex.invariant.size;
       each = λ j b. elim (cases_eq j k) [
-        | inl e ↦ ap (λ (x : ℕ). slice_index_or (set old k c.is_odd.result) x false) e ∙ get_or-set_same old k c.is_odd.result false (omega (arith, inside, c.loop-vertex.invariant.size)) ∙ flag
+        | inl e ↦ ap (λ (x : ℕ). slice_index_or (set old k c.is_odd.result) x false) e ∙ get_or-set_same old k c.is_odd.result false (omega (arith, inside, c.loop-vertex.invariant.size))
+            ∙ flag
             ∙ ap (λ (x : ℕ). eqb (turned_odd i (λ v. slice_index odds (v - 1)) (x + 1)) 1) (sym e)
         | inr d ↦ get_or-set_other old k j c.is_odd.result false d ∙ c.loop-vertex.invariant.each j (omega (arith, b, d))
       ];

@@ -21,7 +21,7 @@ overflow_add-sum c =
       c.loop-node.invariant.left k (omega arith),
       held-next c.args.odd.now c.args.nodes.now k n,
       held-most c.args.odd.now c.args.nodes.now (k + 1) n,
-      c.requires.few,
+      c.requires.size_limit,
     )
 
 pub loop-node-preserved : goal.loop-node-preserved

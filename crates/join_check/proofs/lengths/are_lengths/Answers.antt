@@ -40,5 +40,5 @@ returns c = λ _.
         | inr d ↦ c.loop-node.invariant.outside (omega (arith, d))
       ];
       from_zero = λ b below. c.loop-node.invariant.from_zero b (omega (arith, below, all));
-      small = omega (arith, ints, sum, c.loop-node.invariant.high);
+      value_limit = omega (arith, ints, sum, c.loop-node.invariant.high);
     }

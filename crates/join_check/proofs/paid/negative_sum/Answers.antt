@@ -12,7 +12,8 @@ pub loop-edge-preserved : goal.loop-edge-preserved
 loop-edge-preserved c =
     let i = c.args.instance.now in
     let k = c.loop-edge.edge-index in
-    let here : plain c.edge-item.result ≡ edge_at (graph_of i) k = edge-item i c.edge_list-edge-items.result.now k c.edge-item.result c.edge_list-edge-items.ensures.list c.loop-edge-test.true
+    let here : plain c.edge-item.result
+    ≡ edge_at (graph_of i) k = edge-item i c.edge_list-edge-items.result.now k c.edge-item.result c.edge_list-edge-items.ensures.list c.loop-edge-test.true
     c.edge-item.is in
     let fits : FitsSigned w64 c.edge-item.result.w = search rules in
     let read : to_z w64 (of_z w64 c.edge-item.result.w) ≡ c.edge-item.result.w = to_z-of_z w64 c.edge-item.result.w fits in

@@ -8,7 +8,7 @@ depth_at-requires c =
     let k = c.loop-vertex.vertex in
     let node = slice_index c.args.nodes.now k in
     let place = c.requires.places k c.loop-vertex-test.true in
-    let top = c.requires.small node place.inside in
+    let top = c.requires.value_limit node place.inside in
     let above = c.requires.above node place.inside in
     let read_top = fits-read (at c.args.tops.now node) top in
     let read_length = within-read (at c.args.lengths.now node) (at c.args.heights.now k) (at c.args.tops.now node) place.low place.high above top in
@@ -24,7 +24,7 @@ loop-vertex-preserved c =
     let k = c.loop-vertex.vertex in
     let node = slice_index c.args.nodes.now k in
     let place = c.requires.places k c.loop-vertex-test.true in
-    let top = c.requires.small node place.inside in
+    let top = c.requires.value_limit node place.inside in
     let above = c.requires.above node place.inside in
     let read_top = fits-read (at c.args.tops.now node) top in
     let read_length = within-read (at c.args.lengths.now node) (at c.args.heights.now k) (at c.args.tops.now node) place.low place.high above top in
@@ -36,14 +36,14 @@ loop-vertex-preserved c =
       one_each = length-set c.loop-vertex.depths k _ ∙ c.loop-vertex.invariant.one_each;
       each = λ j b. set-each c.loop-vertex.depths
           (λ x. at c.args.tops.now (slice_index c.args.nodes.now x) -ℤ at c.args.lengths.now (slice_index c.args.nodes.now x) +ℤ at c.args.heights.now x) k j
-          (to_z w64 (of_z w64 c.depth_at.result)) inside (fits-read c.depth_at.result c.depth_at.ensures.small ∙ depth) c.loop-vertex.invariant.each b;
-      small = λ j b. set-small c.loop-vertex.depths k j (to_z w64 (of_z w64 c.depth_at.result)) inside
-          (subst IsLength (sym (fits-read c.depth_at.result c.depth_at.ensures.small)) c.depth_at.ensures.small) c.loop-vertex.invariant.small b;
+          (to_z w64 (of_z w64 c.depth_at.result)) inside (fits-read c.depth_at.result c.depth_at.ensures.value_limit ∙ depth) c.loop-vertex.invariant.each b;
+      value_limit = λ j b. set-small c.loop-vertex.depths k j (to_z w64 (of_z w64 c.depth_at.result)) inside
+          (subst IsLength (sym (fits-read c.depth_at.result c.depth_at.ensures.value_limit)) c.depth_at.ensures.value_limit) c.loop-vertex.invariant.value_limit b;
     }
 
 pub returns : goal.returns
 returns c = record {
   one_each = c.loop-vertex.invariant.one_each;
   each = λ j b. c.loop-vertex.invariant.each j (omega (arith, b, c.loop-vertex-test.false));
-  small = λ j b. c.loop-vertex.invariant.small j (omega (arith, b, c.loop-vertex-test.false));
+  value_limit = λ j b. c.loop-vertex.invariant.value_limit j (omega (arith, b, c.loop-vertex-test.false));
 }

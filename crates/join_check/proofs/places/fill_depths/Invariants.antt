@@ -6,5 +6,5 @@ abbrev pub invariant-loop-vertex : goal.invariant-loop-vertex
 invariant-loop-vertex l = record {
   one_each : length l.depths ≡ length l.nodes;
   each : (j : ℕ) → j < l.vertex → at l.depths j ≡ at l.tops (slice_index l.nodes j) -ℤ at l.lengths (slice_index l.nodes j) +ℤ at l.heights j;
-  small : (j : ℕ) → j < l.vertex → IsLength (at l.depths j);
+  value_limit : (j : ℕ) → j < l.vertex → IsLength (at l.depths j);
 }

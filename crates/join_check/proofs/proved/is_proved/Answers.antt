@@ -17,5 +17,6 @@ returns c = record {
       let marked = subst (λ (xs : List ℕ). AreFlags i (λ v. slice_index xs (v - 1)) flags) c.deref-2.ensures.value c.in_ok-odd.ensures in
       let places = subst (λ (xs : List Bool). ArePlaced f xs) c.deref-3.ensures.value (c.in_ok-placed.ensures is_placed) in
       least-by c.args.parity.now i c.args.join.now f odds flags c.in_ok-odds.ensures.network (c.if-not-has_shape.ensures refl) (c.if-not-is_forest.ensures refl) (c.in_ok-joins.ensures joins)
-      (subst (λ (xs : List ℤ). int_sum_to (at xs) (length xs) +ℤ pos 2 *ℤ turned_weight i ≡ pos 2 *ℤ walk_weight (graph_of i) c.args.join.now) c.as_slice.ensures (c.if-not-is_paid.ensures refl)) c.in_ok-odds.ensures.each marked places (c.in_ok-wide.ensures t);
+      (subst (λ (xs : List ℤ). int_sum_to (at xs) (length xs) +ℤ pos 2 *ℤ turned_weight i
+      ≡ pos 2 *ℤ walk_weight (graph_of i) c.args.join.now) c.as_slice.ensures (c.if-not-is_paid.ensures refl)) c.in_ok-odds.ensures.each marked places (c.in_ok-wide.ensures t);
 }

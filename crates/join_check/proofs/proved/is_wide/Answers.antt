@@ -28,4 +28,5 @@ returns c = λ t.
     wide-by i c.args.levels.now ls bs ns hs ms tops depths c.as_slice-lengths.ensures c.as_slice-befores.ensures c.as_slice-nodes.ensures c.as_slice-heights.ensures c.as_slice-meets.ensures
     c.in_ok-tops.ensures (subst (λ (xs : List ℤ). AreDepths ls xs ns hs depths) c.deref.ensures.value c.in_ok-depths.ensures)
     (subst (λ (xs : List ℤ). (k : ℕ) → k < length i.edges → IsWideBy tops bs ns xs (edge_at (graph_of i) k) (slice_index ms k)) c.deref-3.ensures.value
-    (subst (λ (xs : List ℤ). (k : ℕ) → k < length i.edges → IsWideBy xs bs ns c.deref-3.result.now (edge_at (graph_of i) k) (slice_index ms k)) c.deref-2.ensures.value (c.are_wide.ensures t)))
+    (subst (λ (xs : List ℤ). (k : ℕ) → k < length i.edges
+    → IsWideBy xs bs ns c.deref-3.result.now (edge_at (graph_of i) k) (slice_index ms k)) c.deref-2.ensures.value (c.are_wide.ensures t)))

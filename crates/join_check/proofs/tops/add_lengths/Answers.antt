@@ -24,7 +24,7 @@ add_length-requires c =
     let read = fits-read (at lengths k) own in
     record {
       there = omega (arith, early, inside, c.loop-node.invariant.one_each);
-      small = (omega (arith, ints, here, part.0), omega (arith, ints, here, part.1));
+      value_limit = (omega (arith, ints, here, part.0), omega (arith, ints, here, part.1));
       more = (omega (arith, ints, read, own.0), omega (arith, ints, read, own.1));
     }
 

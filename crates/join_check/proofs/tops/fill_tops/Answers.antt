@@ -57,7 +57,7 @@ returns c =
     record {
       one_each = c.loop-node.invariant.one_each;
       each = λ x b. c.loop-node.invariant.each x (omega (arith, b, c.loop-node-test.false));
-      small = λ x b.
+      value_limit = λ x b.
           let top = part-small lengths (λ y. held_by befores y x) (length lengths) c.requires.lengths (omega arith) in
           let here = c.loop-node.invariant.each x (omega (arith, b, c.loop-node-test.false)) in
           (omega (arith, ints, here, top.0), omega (arith, ints, here, top.1));

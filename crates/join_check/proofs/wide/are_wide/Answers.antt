@@ -8,7 +8,8 @@ pub loop-place-preserved : goal.loop-place-preserved
 loop-place-preserved c =
     let i = c.args.instance.now in
     let k = c.loop-place.place in
-    let here : plain c.edge-item.result ≡ edge_at (graph_of i) k = edge-item i c.edge_list-edge-items.result.now k c.edge-item.result c.edge_list-edge-items.ensures.list c.loop-place-test.true
+    let here : plain c.edge-item.result
+    ≡ edge_at (graph_of i) k = edge-item i c.edge_list-edge-items.result.now k c.edge-item.result c.edge_list-edge-items.ensures.list c.loop-place-test.true
     c.edge-item.is in
     below_more (λ (j : ℕ). IsWideBy c.args.tops.now c.args.befores.now c.args.nodes.now c.args.depths.now (edge_at (graph_of c.args.instance.now) j) (slice_index c.args.meets.now j))
     c.loop-place.place c.loop-place.invariant

@@ -4,7 +4,7 @@ use Rattle.certificates.proofs.Common.{AscendsBy, IsCountWithin, only-bottleneck
 use Rattle.doc_format.proofs.OnePartMore.{formed-as}
 use Rattle.document_lines.specs.Lines.{ListsAnswer}
 use Rattle.document_lines.proofs.Ascents.{ascends-pos}
-use Rattle.kind_answers.proofs.EachKind.{small}
+use Rattle.solve_answers.proofs.EachKind.{small}
 use Rattle.kind_solver.proofs.Forms.{form-lightest}
 use Rattle.kind_solver.proofs.Heaviest.{heaviest-number, weighs-found}
 use Rattle.kind_solver.proofs.Settling.{beside}
@@ -13,8 +13,8 @@ use Rattle.kind_solver.proofs.barriers.best.Goals as goal
 pub count_lines-lines-requires-clause-places : goal.count_lines-lines-requires-clause-places
 count_lines-lines-requires-clause-places c = feasible-places Perfect c.args.instance.now c.in_ok-answer.answer c.in_ok-answer.ensures.feasible
 
-pub count_lines-lines-requires-clause-small : goal.count_lines-lines-requires-clause-small
-count_lines-lines-requires-clause-small c = small Perfect c.args.instance.now c.in_ok-answer.answer c.requires.network c.in_ok-answer.ensures.feasible
+pub count_lines-lines-requires-clause-value_limit : goal.count_lines-lines-requires-clause-value_limit
+count_lines-lines-requires-clause-value_limit c = small Perfect c.args.instance.now c.in_ok-answer.answer c.requires.network c.in_ok-answer.ensures.feasible
 
 pub barrier_line-requires : goal.barrier_line-requires
 barrier_line-requires c some = (c.requires.found.2 some).vertex_set
@@ -52,7 +52,7 @@ returns c =
       weight_is = same;
       number = subst IsNumber (weighs ∙ sym same) (heaviest-number (graph_of i) counts (network-graph i c.requires.network));
       counts_within = subst (λ (xs : List CountLine). All (IsCountWithin (length i.edges)) xs) (sym c.from_vec-counts.ensures) c.in_ok-lines.ensures.in_range;
-      few_counts = subst (λ (xs : List CountLine). length xs ≤ length i.edges) (sym c.from_vec-counts.ensures) c.in_ok-lines.ensures.few;
+      few_counts = subst (λ (xs : List CountLine). length xs ≤ length i.edges) (sym c.from_vec-counts.ensures) c.in_ok-lines.ensures.size_limit;
       only = ap (λ (b : Body). record b { counts = c.from_vec-counts.result; barrier = c.in_ok-line.line }) c.new-document.ensures.body
           ∙ ap (λ (o : Option MemberLine). record blank { counts = c.from_vec-counts.result; barrier = o }) c.in_ok-line.ensures;
     }

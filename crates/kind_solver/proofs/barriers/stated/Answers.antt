@@ -1,8 +1,8 @@
 use Rattle.certificates.proofs.Common.{◌≡◌, ℕ, ℤ, List, IfOk, sym, subst, rules, to_z, of_z, w64, IfOk-weaker, IsBarrier, Kind, plain_graph, lighter_than, only-bottleneck}
 use Rattle.bottleneck.specs.declared.found.Bottleneck.TheVariants.{Best, Unmatched}
 use Rattle.bottleneck.specs.Thresholds.{IsThreshold}
-use Rattle.kind_answers.specs.Excluding.{StatesSet}
-use Rattle.kind_answers.specs.Settled.{SettlesBare}
+use Rattle.solve_answers.specs.Excluding.{StatesSet}
+use Rattle.solve_answers.specs.Settled.{SettlesBare}
 use Rattle.kind_solver.specs.Lightest.{StatesLightest}
 use Rattle.kind_solver.proofs.Settling.{settles-lightest, settles-unmatched}
 use Rattle.kind_solver.proofs.barriers.stated.Goals as goal

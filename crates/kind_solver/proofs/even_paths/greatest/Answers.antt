@@ -1,7 +1,7 @@
 use Rattle.certificates.proofs.Common.{◌≡◌, ℕ, ◌+◌, ◌*◌, ◌≤◌, subst, arith, IfOk-weaker, Kind, Network, OuterPaths, Gallai, proof_of, searches_of, only-gallai}
 use Rattle.mb_problem.specs.Size.{size_of}
 use Rattle.mwpm_engine.specs.Solutions.{most_steps}
-use Rattle.kind_answers.specs.Settled.{SettlesBare}
+use Rattle.solve_answers.specs.Settled.{SettlesBare}
 use Rattle.kind_solver.specs.Greatest.{StatesGreatest}
 use Rattle.kind_solver.proofs.Outer.{settles-greatest}
 use Rattle.kind_solver.proofs.even_paths.greatest.Goals as goal

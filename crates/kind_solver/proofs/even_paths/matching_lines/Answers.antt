@@ -12,7 +12,7 @@ count_lines-lines-requires c =
     let same : c.from_vec.result ≡ times_each g es = c.from_vec.ensures ∙ c.in_ok-counts.ensures in
     record {
       places = subst (λ (xs : List ℕ). length xs ≡ length i.edges) (sym same) (times_each-length g es ∙ edges-count i);
-      small = subst (All (λ n. n ≤ VALUE_LIMIT)) (sym same) (All-weaker (λ n. n ≤ 1) (λ n. n ≤ VALUE_LIMIT) (λ n few. omega (arith, few)) (times_each g es) c.requires.once);
+      value_limit = subst (All (λ n. n ≤ VALUE_LIMIT)) (sym same) (All-weaker (λ n. n ≤ 1) (λ n. n ≤ VALUE_LIMIT) (λ n few. omega (arith, few)) (times_each g es) c.requires.once);
     }
 
 pub returns : goal.returns
@@ -25,5 +25,5 @@ returns c =
           (subst (λ (xs : List CountLine). ListsAnswer (Counts c.from_vec.result) xs) (sym made) e.counts);
       ascending = subst (λ (xs : List CountLine). AscendsBy (λ x. x.edge) xs) (sym made) e.ascending;
       in_range = subst (λ (xs : List CountLine). All (IsCountWithin m) xs) (sym made) e.in_range;
-      few = subst (λ (xs : List CountLine). length xs ≤ m) (sym made) e.few;
+      size_limit = subst (λ (xs : List CountLine). length xs ≤ m) (sym made) e.size_limit;
     }

@@ -13,7 +13,7 @@ matching_lines-requires c =
     let same = sym c.as_slice.ensures in
     record {
       numbers = subst (All (IsEdgeNumber (graph_of i))) same c.requires.found.numbers;
-      few = subst (λ (es : List ℕ). length es ≤ 65536) same few;
+      size_limit = subst (λ (es : List ℕ). length es ≤ 65536) same few;
       once = subst (λ (es : List ℕ). All (λ n. n ≤ 1) (times_each (graph_of i) es)) same c.requires.found.greatest.matched.at_most_once;
     }
 
@@ -48,7 +48,7 @@ returns c =
       weight_is = weight;
       number = subst IsNumber (sym weight) (small-number (length found.matching) few);
       counts_within = c.in_ok-counts.ensures.in_range;
-      few_counts = c.in_ok-counts.ensures.few;
+      few_counts = c.in_ok-counts.ensures.size_limit;
       only = ap (λ (b : Body). record b { counts = c.in_ok-counts.counts; outer = Some c.in_ok-outer.outer; barrier = Some c.in_ok-border.border; paths = c.in_ok-paths.paths })
           c.new-document.ensures.body
           ∙ rw (c.in_ok-outer.ensures.line, c.in_ok-border.ensures.line, c.in_ok-paths.ensures, c.as_slice-2.ensures, c.as_slice-3.ensures) refl;

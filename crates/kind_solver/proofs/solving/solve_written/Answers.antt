@@ -1,7 +1,7 @@
 use Rattle.certificates.proofs.Common.{◌≡◌, true, false, Bool, Result, Ok, Err, IfOk, refl, sym, ◌∙◌, subst, true≢false, IfOk-weaker, Kind, Network, Document}
 use Rattle.certificates.proofs.Common.{Infeasible, only-bottleneck, only-gallai}
-use Rattle.kind_answers.specs.Settled.{IsWrittenFor, SettlesBare, SettlesFor}
-use Rattle.kind_answers.specs.Solved.{is_tested_first}
+use Rattle.solve_answers.specs.Settled.{IsWrittenFor, SettlesBare, SettlesFor}
+use Rattle.solve_answers.specs.Solved.{is_tested_first}
 use Rattle.solve_kinds.proofs.Settling.{settles-for}
 use Rattle.kind_solver.proofs.solving.solve_written.Goals as goal
 

@@ -10,7 +10,7 @@ use Rattle.least_joins.proofs.least.matched_join.Goals as goal
 pub solve_matched-requires : goal.solve_matched-requires
 solve_matched-requires g c =
     let r = c.requires.reached c.requires.some.0 c.requires.some.1 in
-    record { fresh = c.requires.fresh; perfect = (r.counts, subst (λ (k : Multigraph). IsPerfect k r.counts) (sym c.requires.ports) r.perfect) }
+    record { not_run = c.requires.not_run; perfect = (r.counts, subst (λ (k : Multigraph). IsPerfect k r.counts) (sym c.requires.ports) r.perfect) }
 
 pub extract-requires : goal.extract-requires
 extract-requires g c =
@@ -22,7 +22,7 @@ extract-requires g c =
     let lists : ListsCounts h (matching_of h s.mates) c.deref.result.now = subst (λ (k : Multigraph). ListsCounts k (matching_of k s.mates) c.deref.result.now) here
     (subst (λ (es : List ℕ). ListsCounts c.graph.result.now (matching_of c.graph.result.now s.mates) es) (sym c.deref.ensures.value) c.in_ok-edges.ensures.counts) in
     let P : Multigraph → Type 0 = λ k. IsPerfectList k c.deref.result.now in
-    record { perfect = subst P c.requires.ports (list_from_perfect h (matching_of h s.mates) c.deref.result.now (subst HasNoLoop same c.graph.ensures.plain) found lists) }
+    record { perfect = subst P c.requires.ports (list_from_perfect h (matching_of h s.mates) c.deref.result.now (subst HasNoLoop same c.graph.ensures.loopless) found lists) }
 
 pub returns-clause-least : goal.returns-clause-least
 returns-clause-least g c =
@@ -30,7 +30,7 @@ returns-clause-least g c =
     let h : Multigraph = c.args.engine.now.graph in
     let s = c.solve_matched.new.self in
     let same : s.graph ≡ h = c.solve_matched.ensures.graph in
-    let graph : IsGraph s.graph = c.graph.ensures.good in
+    let graph : IsGraph s.graph = c.graph.ensures.is_graph in
     let is : IsSolved s = c.solve_matched.ensures.ends in
     let found : IsPerfect h (matching_of h s.mates) = subst (λ (k : Multigraph). IsPerfect k (matching_of k s.mates)) same is.perfect in
     let here : c.graph.result.now ≡ h = c.graph.ensures.graph ∙ same in

@@ -11,7 +11,7 @@ returns-in-Ok-clause-answer g c =
     let i = c.args.instance.now in
     let w = c.in-Ok.ensures.answer.written in
     let e = w.settles in
-    let solves : Solves c.args.kind i w.whole = record { network = c.requires.network; proved = e.proved; truth = e.truth; exact = e.exact; chosen = e.chosen; small = e.small } in
+    let solves : Solves c.args.kind i w.whole = record { network = c.requires.network; proved = e.proved; truth = e.truth; exact = e.exact; chosen = e.chosen; size_limit = e.size_limit } in
     let text : IfOk c.solved-reply.result (λ a. a.text.items ≡ document_text w.whole c.args.brief) =
     subst (λ (t : List ℕ). IfOk c.solved-reply.result (λ a. a.text.items ≡ t)) w.text c.solved-reply.ensures.text in
     sized_answers c.args.kind c.args.brief i w.whole c.solved-reply.result c.in-Ok.ensures.answer.limits solves text c.solved-reply.ensures.status

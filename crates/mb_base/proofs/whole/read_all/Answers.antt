@@ -16,6 +16,6 @@ loop-buf-preserved g c =
     ∙ ap (λ (bs : List ℕ). c.loop-buf.bytes.items ++ bs) (take-append-le c.in-Ok.count c.read.new.buf _ c.in-Ok.ensures.bound.0) in
     record {
       read = rw more (Consumes-trans _ _ _ _ _ c.loop-buf.invariant.read c.in-Ok.ensures.bytes.0);
-      few = omega (arith, ap length more, length-append {A = ℕ}, length-take {A = ℕ});
+      size_limit = omega (arith, ap length more, length-append {A = ℕ}, length-take {A = ℕ});
       quiet = c.in-Ok.ensures.cause ∙ c.loop-buf.invariant.quiet;
     }

@@ -11,10 +11,10 @@ add_edge-requires-clause-ends c = subst (λ n. IsEdgeWithin n (plain c.edge-item
     c.loop-k-test.true
     c.edge-item.is).ends
 
-pub add_edge-requires-clause-small : goal.add_edge-requires-clause-small
-add_edge-requires-clause-small c = λ v b.
+pub add_edge-requires-clause-value_limit : goal.add_edge-requires-clause-value_limit
+add_edge-requires-clause-value_limit c = λ v b.
     let few = c.edge_list-edge-items.ensures.network.few_edges in
-    omega (arith, c.loop-k.invariant.small v (omega (arith, b, c.loop-k.invariant.one_each)), few, c.loop-k-test.true, ap length c.edge_list-edge-items.ensures.list)
+    omega (arith, c.loop-k.invariant.value_limit v (omega (arith, b, c.loop-k.invariant.one_each)), few, c.loop-k-test.true, ap length c.edge_list-edge-items.ensures.list)
 
 pub loop-k-preserved : goal.loop-k-preserved
 loop-k-preserved c =
@@ -29,10 +29,10 @@ loop-k-preserved c =
       each = λ v b. c.add_edge.ensures.each v (omega (arith, b, so_far.one_each))
           ∙ sum_to-step (λ j. slice_index counts j * ends_at (edge_at g j) (v + 1)) k (slice_index c.loop-k.degrees v) (slice_index counts k * ends_at (plain c.edge-item.result) (v + 1))
           (so_far.each v b) (ap (λ (e : Edge). slice_index counts k * ends_at e (v + 1)) here);
-      small = λ v b.
+      value_limit = λ v b.
           let more = mul-le (slice_index counts k) (ends_at (plain c.edge-item.result) (v + 1)) (2 ^ 32) 2 (omega (arith, (c.type_inv.counts k).fits))
           (two_ends (plain c.edge-item.result) (v + 1)) in
-          omega (arith, c.add_edge.ensures.each v (omega (arith, b, so_far.one_each)), so_far.small v b, more);
+          omega (arith, c.add_edge.ensures.each v (omega (arith, b, so_far.one_each)), so_far.value_limit v b, more);
     }
 
 pub returns : goal.returns

@@ -19,15 +19,15 @@ loop-edge-preserved c =
       each = λ v b. c.add_edge.ensures.each v (omega (arith, b, so_far.size, c.requires.room))
           ∙ sum_to-step (λ j. slice_index (replicate (length i.edges) 1) j * ends_at (edge_at (graph_of i) j) (v + 1)) k (slice_index c.loop-edge.degrees v)
           (1 * ends_at (plain c.edge-item.result) (v + 1)) (so_far.each v b) (ap₂ (λ (n : ℕ) (e : Edge). n * ends_at e (v + 1)) (sym one) here);
-      small = λ v b.
+      value_limit = λ v b.
           let old : v < length c.loop-edge.degrees = omega (arith, b, c.add_edge.ensures.size) in
-          omega (arith, c.add_edge.ensures.each v old, so_far.small v old, two_ends (plain c.edge-item.result) (v + 1));
+          omega (arith, c.add_edge.ensures.each v old, so_far.value_limit v old, two_ends (plain c.edge-item.result) (v + 1));
     }
 
-pub add_edge-requires-clause-small : goal.add_edge-requires-clause-small
-add_edge-requires-clause-small c = λ v b.
+pub add_edge-requires-clause-value_limit : goal.add_edge-requires-clause-value_limit
+add_edge-requires-clause-value_limit c = λ v b.
     let few = c.edge_list-edge-items.ensures.network.few_edges in
-    omega (arith, c.loop-edge.invariant.small v b, few, c.loop-edge-test.true, ap length c.edge_list-edge-items.ensures.list)
+    omega (arith, c.loop-edge.invariant.value_limit v b, few, c.loop-edge-test.true, ap length c.edge_list-edge-items.ensures.list)
 
 pub returns-clause-counts : goal.returns-clause-counts
 returns-clause-counts c = λ v below.

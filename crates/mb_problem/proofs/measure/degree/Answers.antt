@@ -16,7 +16,7 @@ loop-k-preserved c =
     let count : c.from.result < 2 ^ 32 = omega (arith, c.from.ensures, (c.type_inv.counts k).fits) in
     record {
       sum = sum_to-step (λ j. slice_index counts j * ends_at (edge_at g j) v) k c.loop-k.total (c.from.result * c.ends_at.result) c.loop-k.invariant.sum (ap₂ ◌*◌ c.from.ensures ends);
-      small = omega (arith, c.loop-k.invariant.small, mul-le c.from.result c.ends_at.result (2 ^ 32) 2 (omega (arith, count)) c.ends_at.ensures.small);
+      value_limit = omega (arith, c.loop-k.invariant.value_limit, mul-le c.from.result c.ends_at.result (2 ^ 32) 2 (omega (arith, count)) c.ends_at.ensures.value_limit);
     }
 
 pub returns-clause-degree : goal.returns-clause-degree

@@ -1,6 +1,6 @@
 use Rattle.alt_forest.proofs.Common.{◌≡◌, ◌∙◌, ◌+◌, ◌*◌, ◌≤◌, ap, subst, arith, Multigraph, exposed_count, state_of}
 use Rattle.alt_forest.specs.declared.search.Search.{Search}
-use Rattle.event_bounds.specs.declared.bounds.EventBounds.{EventBounds}
+use Rattle.search_keys.specs.declared.bounds.EventBounds.{EventBounds}
 use Rattle.mwpm_engine.specs.Solutions.{size_of_graph}
 use Rattle.mwpm_engine.specs.Passes.{IsReached, augment_account, pass_account, stage_of, steps_reached, steps_to}
 use Rattle.mwpm_engine.proofs.Reached.{stuck_forest}
@@ -11,29 +11,29 @@ use Rattle.mwpm_engine.proofs.StepCounts.{steps_few}
 use Rattle.mwpm_engine.proofs.PassCounts.{pass_begun, pass_idle, pass_matched, steps_counted}
 use Rattle.mwpm_engine.proofs.pass.pass.Goals as goal
 
-pub plant_all_bounding-some-requires-clause-bounding : goal.plant_all_bounding-some-requires-clause-bounding
-plant_all_bounding-some-requires-clause-bounding g c =
+pub plant_all_bounding-some-requires-clause-vertex_keys : goal.plant_all_bounding-some-requires-clause-vertex_keys
+plant_all_bounding-some-requires-clause-vertex_keys g c =
     let s : Search = c.args.search.now in let b : EventBounds = c.clear.new.self in let e = c.clear.ensures in
-    begins_bounding s b _ _ c.requires.ready c.requires.near (cleared_places s.graph c.args.bounds.now b e.moments e.hints e.keys c.requires.places) e.moments e.none
+    begins_bounding s b _ _ c.requires.well_formed c.requires.near (cleared_places s.graph c.args.bounds.now b e.moments e.hints e.keys c.requires.places) e.moments e.none
 
 pub returns-then-not-some : goal.returns-then-not-some
 returns-then-not-some g c =
     let s : Search = c.args.search.now in let t : Search = c.plant_all_bounding-some.new.search in
     let e = c.if-not-some.ensures in let stale = none_stale s c.clear.new.self c.clear.ensures.none in
-    let ends = planted_none_left s t e.rest c.requires.ready e.sound e.planted e.trees in
-    let steps = pass_idle s t c.plant_all_bounding-some.new.bounds c.args.steps.now c.plant_all_bounding-some.new.steps c.requires.ready c.requires.blossoms
-    (ap (λ (x : Search). x.arena.blossoms) e.rest) (ap (λ (x : Search). x.graph) e.rest) (omega (arith, stale, e.stale)) e.looks (exposed_count (state_of s)) in
-    record { ends = ends; sound = e.sound; places = e.bounding.places; pass = planted_pass s t e.rest; steps = steps }
+    let ends = planted_none_left s t e.frame c.requires.well_formed e.sound e.all_rooted e.trees in
+    let steps = pass_idle s t c.plant_all_bounding-some.new.bounds c.args.steps.now c.plant_all_bounding-some.new.steps c.requires.well_formed c.requires.blossoms
+    (ap (λ (x : Search). x.arena.blossoms) e.frame) (ap (λ (x : Search). x.graph) e.frame) (omega (arith, stale, e.stale)) e.inspections (exposed_count (state_of s)) in
+    record { ends = ends; sound = e.sound; places = e.vertex_keys.places; pass = planted_pass s t e.frame; steps = steps }
 
 pub loop-event-init : goal.loop-event-init
 loop-event-init g c =
     let s : Search = c.args.search.now in let t : Search = c.plant_all_bounding-some.new.search in
     let e = c.if-not-some.ensures in let stale = none_stale s c.clear.new.self c.clear.ensures.none in
     record {
-      running = record { forest = planted_on s t e.rest c.requires.ready e.sound e.standing e.planted e.trees; bounding = e.bounding };
-      same = planted_pass s t e.rest;
-      steps = pass_begun s t c.plant_all_bounding-some.new.bounds c.args.steps.now c.plant_all_bounding-some.new.steps c.requires.ready c.requires.blossoms
-          (ap (λ (x : Search). x.arena.blossoms) e.rest) (ap (λ (x : Search). x.graph) e.rest) (omega (arith, stale, e.stale)) e.looks e.exposed;
+      running = record { forest = planted_on s t e.frame c.requires.well_formed e.sound e.listed e.all_rooted e.trees; vertex_keys = e.vertex_keys };
+      same = planted_pass s t e.frame;
+      steps = pass_begun s t c.plant_all_bounding-some.new.bounds c.args.steps.now c.plant_all_bounding-some.new.steps c.requires.well_formed c.requires.blossoms
+          (ap (λ (x : Search). x.arena.blossoms) e.frame) (ap (λ (x : Search). x.graph) e.frame) (omega (arith, stale, e.stale)) e.inspections e.exposed;
     }
 
 pub loop-event-preserved : goal.loop-event-preserved
@@ -64,4 +64,4 @@ returns g c =
     let ends = stuck_forest t r.running.forest (subst (IsReached t) c.in_default.is r.reached) in
     let pass = same_through c.args.search.now c.loop-event.search t c.loop-event.invariant.same r.pass in
     let f = r.running in
-    record { ends = ends; sound = f.forest.sound; places = f.bounding.places; pass = pass; steps = omega (arith, paid, steps_counted p, c.loop-event.invariant.steps) }
+    record { ends = ends; sound = f.forest.sound; places = f.vertex_keys.places; pass = pass; steps = omega (arith, paid, steps_counted p, c.loop-event.invariant.steps) }

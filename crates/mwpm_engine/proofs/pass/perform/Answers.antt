@@ -16,7 +16,7 @@ kept_can p q event e k runs can =
 pub join_bounding-requires : goal.join_bounding-requires
 join_bounding-requires g c =
     let k = kept_can _ _ _ _ c.in-Some.ensures.takes c.requires.running c.requires.possible in
-    record { sound = k.0.forest.sound; bounding = k.0.bounding; standing = k.0.forest.standing; can = k.1 }
+    record { sound = k.0.forest.sound; vertex_keys = k.0.vertex_keys; listed = k.0.forest.listed; possible = k.1 }
 
 pub returns-in-Some : goal.returns-in-Some
 returns-in-Some g c =
@@ -24,6 +24,6 @@ returns-in-Some g c =
     let kept = c.in-Some.ensures.takes in
     let k = kept_can _ _ _ _ kept c.requires.running c.requires.possible in let e = c.join_bounding.ensures in
     let n = c.join_bounding.result in
-    let done = joined q r _ _ c.in-Some.e _ _ k.0.forest k.1 e.rest e.sound e.fewer e.planted n e.bounding e.places e.standing e.left e.clock e.last e.looks in
-    let same = same_through c.args.search.now q r c.take_in_bounding.ensures.pass (joined_pass q r e.rest) in
+    let done = joined q r _ _ c.in-Some.e _ _ k.0.forest k.1 e.frame e.sound e.fewer e.all_rooted n e.vertex_keys e.places e.listed e.left e.clock e.last e.inspections in
+    let same = same_through c.args.search.now q r c.take_in_bounding.ensures.pass (joined_pass q r e.frame) in
     record { happens = kept_happens _ _ _ c.args.event c.in-Some.e n kept done; pass = same }

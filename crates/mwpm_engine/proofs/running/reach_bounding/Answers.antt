@@ -17,9 +17,9 @@ reached g c =
 
 pub apply_bounding-requires : goal.apply_bounding-requires
 apply_bounding-requires g c =
-    let q = c.requires.running.forest in let b = c.find_bounding-next.ensures.bounding in
+    let q = c.requires.running.forest in let b = c.find_bounding-next.ensures.vertex_keys in
     let f = reached g c in let w = f.within in
-    record { sound = q.sound; bounding = b; standing = q.standing; planted = q.planted; low = w.low; within = w; in_range = f.left.in_range; clock = f.left.clock_fits }
+    record { sound = q.sound; vertex_keys = b; listed = q.listed; all_rooted = q.all_rooted; low = w.low; within = w; in_range = f.left.in_range; clock = f.left.clock_fits }
 
 pub returns-in_err-event-clause-reached : goal.returns-in_err-event-clause-reached
 returns-in_err-event-clause-reached g c =
@@ -33,13 +33,13 @@ returns g c =
     let a = c.apply_bounding.ensures in let found = reached g c.before in
     let by = looks_reach c.find_bounding-next.result c.in_ok-event.event c.in_ok-event.d (sym c.event_of.ensures ∙ c.in_ok-event.was) in
     let keeps = keeps_applied (state_of s) (state_of t) _ a.state in let f = c.requires.running.forest in
-    let grown = grows_on s t _ f a.sound a.standing a.planted a.state (ap (λ (x : Search). x.start) a.rest) (ap (λ (x : Search). x.clock) a.rest) found.left in
+    let grown = grows_on s t _ f a.sound a.listed a.all_rooted a.state (ap (λ (x : Search). x.start) a.frame) (ap (λ (x : Search). x.clock) a.frame) found.left in
     record {
-      running = record { forest = grown; bounding = a.bounding };
+      running = record { forest = grown; vertex_keys = a.vertex_keys };
       reached = subst (λ (x : State). IsPossible x c.in_ok-event.event) (sym a.state) found.possible;
       keeps = keeps;
-      pass = same_pass s t (ap pass_of a.rest);
-      paid = reached_kept s t c.args.bounds.now c.find_bounding-next.new.bounds (ap (λ (x : Search). x.graph) a.rest) keeps.exposed c.args.steps.now c.apply_bounding.new.steps _ keeps
+      pass = same_pass s t (ap pass_of a.frame);
+      paid = reached_kept s t c.args.bounds.now c.find_bounding-next.new.bounds (ap (λ (x : Search). x.graph) a.frame) keeps.exposed c.args.steps.now c.apply_bounding.new.steps _ keeps
           (ap shrinks_left a.state) (omega (arith, by, a.stale, a.step, c.find_bounding-next.ensures.count));
     }
 
@@ -47,5 +47,6 @@ pub returns-in_err-event-clause-paid : goal.returns-in_err-event-clause-paid
 returns-in_err-event-clause-paid g c =
     let s : Search = c.args.search.now in
     let none = looks_none c.find_bounding-next.result (sym c.event_of.ensures ∙ c.in_err-event.was) in
-    reached_kept s s c.args.bounds.now c.find_bounding-next.new.bounds refl refl c.args.steps.now c.find_bounding-next.new.steps _ (record { exposed = refl; left = refl; looks = refl })
+    reached_kept s s c.args.bounds.now c.find_bounding-next.new.bounds refl refl c.args.steps.now c.find_bounding-next.new.steps _
+    (record { exposed = refl; left = refl; inspections = refl })
     refl (omega (arith, none, c.find_bounding-next.ensures.count))

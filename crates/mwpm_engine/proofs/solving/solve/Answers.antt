@@ -46,8 +46,11 @@ returns-in-Some-clause-concludes g c =
     let s : Search = c.pass_anew.new.search in let t : Search = c.weigh.new.search in
     let first = c.if-not-pass_anew.ensures in let e = c.weigh.ensures in
     let weighs = subst (λ (o : Option ℤ). IfSome o (λ w. IsWeight w × AllWeigh s.graph w)) c.in-Some.is c.common_weight.ensures.some in
-    let back : to_z w64 (of_z w64 c.in-Some.weight) ≡ c.in-Some.weight = search rules in
-    (weighed_unpacked s t _ e.rest e.sound e.slacks first.ends, counts_given t (ap (λ (x : Search). x.weights) e.rest), weighed_within s t _ e.rest (subst IsWeight (sym back) weighs.0) e.vertices e.blossoms)
+    let back : to_z w64 (of_z w64 c.in-Some.weight) ≡ c.in-Some.weight = search rules in (
+      weighed_unpacked s t _ e.frame e.sound e.slacks first.ends,
+      counts_given t (ap (λ (x : Search). x.weights) e.frame),
+      weighed_within s t _ e.frame (subst IsWeight (sym back) weighs.0) e.vertices e.blossoms,
+    )
 
 pub returns : goal.returns
 returns g c =

@@ -6,7 +6,7 @@ use Rattle.outcome_lines.proofs.sets.find_names.Goals as goal
 pub gather-requires-clause-last : goal.gather-requires-clause-last
 gather-requires-clause-last c =
     λ v. (let same : entry c.deref_mut.result.now v ≡ entry c.args.tables.now.last.items v = ap (λ (xs : List ℕ). entry xs v) c.deref_mut.ensures.value in
-    omega (arith, same, c.requires.ready.last v, last-low c.args.engine.now.sets c.args.done v))
+    omega (arith, same, c.requires.well_formed.last v, last-low c.args.engine.now.sets c.args.done v))
 
 pub arrange-requires-clause-within : goal.arrange-requires-clause-within
 arrange-requires-clause-within c =
@@ -19,10 +19,10 @@ arrange-requires-clause-within c =
     (All-get_or (λ s. All (λ m. (1 ≤ m) × (m ≤ n)) s.members) sets place no_set low c.requires.within))
 
 pub gather-requires-clause-seen : goal.gather-requires-clause-seen
-gather-requires-clause-seen c = rw c.deref_mut-2.ensures.value c.requires.ready.seen
+gather-requires-clause-seen c = rw c.deref_mut-2.ensures.value c.requires.well_formed.seen
 
 pub arrange-requires-clause-clear : goal.arrange-requires-clause-clear
-arrange-requires-clause-clear c = rw c.deref_mut-3.ensures.value c.requires.ready.clear
+arrange-requires-clause-clear c = rw c.deref_mut-3.ensures.value c.requires.well_formed.clear
 
 pub arrange-requires-clause-size : goal.arrange-requires-clause-size
-arrange-requires-clause-size c = rw c.deref_mut-3.ensures.value c.requires.ready.marks_size
+arrange-requires-clause-size c = rw c.deref_mut-3.ensures.value c.requires.well_formed.marks_size

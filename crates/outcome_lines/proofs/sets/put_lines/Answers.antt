@@ -11,7 +11,7 @@ loop-done-preserved c =
     let e = c.in_ok-set_line.ensures in
     let pushed = c.in_ok-push.ensures.items in
     record {
-      ready = e.ready;
+      well_formed = e.well_formed;
       count = omega (arith, ap (λ (xs : List SetLine). length xs) pushed, length_push lines z, c.loop-done.invariant.count);
       lines = lines-push sets lines c.push.new.self.items z c.loop-done.invariant.lines pushed (subst (λ (k : ℕ). IsLineOf sets k z) (sym c.loop-done.invariant.count) e.line);
     }

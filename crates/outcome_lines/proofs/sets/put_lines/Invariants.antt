@@ -5,7 +5,7 @@ use Rattle.outcome_lines.proofs.sets.put_lines.Given as goal
 
 abbrev pub invariant-loop-done : goal.invariant-loop-done
 invariant-loop-done l = record {
-  ready : AreReady l.vertices l.engine.sets l.done l.tables;
+  well_formed : AreReady l.vertices l.engine.sets l.done l.tables;
   count : length l.lines.items ≡ l.done;
   lines : AreLinesOf l.engine.sets l.lines.items;
 }

@@ -8,8 +8,8 @@ use Rattle.outcome_lines.proofs.sets.set_lines.Goals as goal
 same_entry : {A : Type 0} (n v : ℕ) (x : A) → get_or (replicate n x) v x ≡ x
 same_entry n v x = elim (cases_lt v n) [ inl low ↦ get_or-replicate n v x x low | inr past ↦ get_or_past (replicate n x) v x (omega (arith, past, length-replicate n x)) ]
 
-pub put_lines-listed-requires-clause-ready : goal.put_lines-listed-requires-clause-ready
-put_lines-listed-requires-clause-ready c =
+pub put_lines-listed-requires-clause-well_formed : goal.put_lines-listed-requires-clause-well_formed
+put_lines-listed-requires-clause-well_formed c =
     let n = c.vertices-vertices.result in
     let t = c.in_ok-tables.ensures in
     record {

@@ -5,6 +5,6 @@ use Rattle.pass_parts.proofs.planting.plant_all.Given as goal
 abbrev pub invariant-loop-place : goal.invariant-loop-place
 invariant-loop-place g l = record {
   planting : IsPlanting l.fn.search l.search l.place l.some l.fn.steps l.steps;
-  queued : IsQueued l.search;
+  event_times : IsQueued l.search;
   count : entry_count l.search.queue + l.fn.steps ≤ entry_count l.fn.search.queue + l.steps;
 }

@@ -8,11 +8,11 @@ start_pass-requires g c =
     let s = c.args.search.now in let r = c.requires in
     record {
       sound = r.sound;
-      queued = r.queued;
-      standing = r.standing;
-      start = subst (λ (k : Multigraph). IsStart k s.weights s.start) r.same r.start;
+      event_times = r.event_times;
+      listed = r.listed;
+      start = subst (λ (k : Multigraph). IsStart k s.weights s.start) r.same_graph r.start;
       blossoms = r.blossoms;
-      duals = λ v is. r.duals v (ap (λ (k : Multigraph). is_vertex k.vertices v) r.same ∙ is);
+      duals = λ v is. r.duals v (ap (λ (k : Multigraph). is_vertex k.vertices v) r.same_graph ∙ is);
       labels = r.labels;
       mates = r.mates;
     }
@@ -20,16 +20,16 @@ start_pass-requires g c =
 pub returns : goal.returns
 returns g c =
     let e = c.start_pass.ensures in let r = c.requires in
-    let here = λ (v : ℕ) (is : is_vertex c.args.graph.now.vertices v ≡ true). ap (λ (k : Multigraph). is_vertex k.vertices v) (sym r.same) ∙ is in
+    let here = λ (v : ℕ) (is : is_vertex c.args.graph.now.vertices v ≡ true). ap (λ (k : Multigraph). is_vertex k.vertices v) (sym r.same_graph) ∙ is in
     record {
-      rest = e.rest;
+      frame = e.frame;
       sound = e.sound;
-      queued = e.queued;
-      standing = e.standing;
-      bounded = λ perfect. e.bounded (λ w. subst HasPerfect r.same (perfect w));
+      event_times = e.event_times;
+      listed = e.listed;
+      bounded = λ perfect. e.bounded (λ w. subst HasPerfect r.same_graph (perfect w));
       parity = λ u v is_u is_v. e.parity u v (here u is_u) (here v is_v);
       maximal = e.maximal;
       exposed = e.exposed;
-      steps = subst (λ (k : Multigraph). c.start_pass.new.steps ≤ c.args.steps.now + start_looks k.vertices * length k.edges) (sym r.same) e.steps;
-      flat = λ zero. subst (λ (k : Multigraph). c.start_pass.new.steps ≤ c.args.steps.now + 4 * length k.edges) (sym r.same) (e.flat zero);
+      steps = subst (λ (k : Multigraph). c.start_pass.new.steps ≤ c.args.steps.now + start_looks k.vertices * length k.edges) (sym r.same_graph) e.steps;
+      flat = λ zero. subst (λ (k : Multigraph). c.start_pass.new.steps ≤ c.args.steps.now + 4 * length k.edges) (sym r.same_graph) (e.flat zero);
     }

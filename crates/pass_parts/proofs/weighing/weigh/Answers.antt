@@ -64,13 +64,13 @@ returns-clause-slacks c =
     let s : Search = c.args.search.now in let f : Family = c.raise_vertices.new.arena in let r = c.raise_vertices.ensures in let h = c.requires.sound.shape in
     let back : to_z w64 (of_z w64 c.args.weight) ≡ c.args.weight = search rules in
     let vertices : (v : ℕ) → is_vertex s.graph.vertices v ≡ true → dual_at f.duals v ≡ c.args.weight = λ v is. r.vertices v (ap (λ n. is_vertex n v) h.arena ∙ is) ∙ back in
-    slacks_still s f c.args.weight (to_z w64 (of_z w64 c.args.weight)) r.rest h.graph.graph (level_before s c.requires.zero c.requires.duals)
-    (level_after s f c.args.weight (to_z w64 (of_z w64 c.args.weight)) r.rest c.requires.alike vertices (blossoms_still s f h c.requires.duals r.others))
+    slacks_still s f c.args.weight (to_z w64 (of_z w64 c.args.weight)) r.frame h.graph.graph (level_before s c.requires.zero c.requires.duals)
+    (level_after s f c.args.weight (to_z w64 (of_z w64 c.args.weight)) r.frame c.requires.alike vertices (blossoms_still s f h c.requires.duals r.others))
 
 pub returns-clause-sound : goal.returns-clause-sound
 returns-clause-sound c =
     let s : Search = c.args.search.now in let f : Family = c.raise_vertices.new.arena in let r = c.raise_vertices.ensures in let h = c.requires.sound.shape in
     let back : to_z w64 (of_z w64 c.args.weight) ≡ c.args.weight = search rules in
     let vertices : (v : ℕ) → is_vertex s.graph.vertices v ≡ true → dual_at f.duals v ≡ c.args.weight = λ v is. r.vertices v (ap (λ n. is_vertex n v) h.arena ∙ is) ∙ back in
-    sound_still s f c.args.weight (to_z w64 (of_z w64 c.args.weight)) r.rest r.good (level_before s c.requires.zero c.requires.duals)
-    (level_after s f c.args.weight (to_z w64 (of_z w64 c.args.weight)) r.rest c.requires.alike vertices (blossoms_still s f h c.requires.duals r.others)) c.requires.sound
+    sound_still s f c.args.weight (to_z w64 (of_z w64 c.args.weight)) r.frame r.is_family (level_before s c.requires.zero c.requires.duals)
+    (level_after s f c.args.weight (to_z w64 (of_z w64 c.args.weight)) r.frame c.requires.alike vertices (blossoms_still s f h c.requires.duals r.others)) c.requires.sound

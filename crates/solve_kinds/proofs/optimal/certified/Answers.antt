@@ -2,7 +2,7 @@ use Rattle.certificates.proofs.Common.{List, map, All, sym, ap, ◌∙◌, subst
 use Rattle.document_lines.specs.Members.{AreWithin}
 use Rattle.document_lines.specs.Sets.{ListsSets}
 use Rattle.solve_kinds.proofs.Forms.{form-completed}
-use Rattle.kind_answers.proofs.InRange.{sets-formed}
+use Rattle.solve_answers.proofs.InRange.{sets-formed}
 use Rattle.solve_kinds.proofs.Settling.{states-with}
 use Rattle.solve_kinds.proofs.SolvedSets.{solved-duals, solved-within, solved-positive, solved-odd}
 use Rattle.solve_kinds.proofs.optimal.certified.Goals as goal
@@ -13,7 +13,7 @@ set_lines-requires c =
     let solved = c.requires.solved in
     record {
       matched = c.requires.matched;
-      within = subst (λ (h : Multigraph). AreWithin h.vertices s.sets) c.requires.same (solved-within s solved);
+      within = subst (λ (h : Multigraph). AreWithin h.vertices s.sets) c.requires.same_graph (solved-within s solved);
       positive = solved-positive s solved;
       numbers = solved.sets_in_range;
       nested = solved.nested;
@@ -26,8 +26,8 @@ dual_lines-requires c =
     let solved = c.requires.solved in
     record {
       matched = c.requires.matched;
-      same = c.requires.same;
-      one_each = solved-duals s solved ∙ ap (λ (h : Multigraph). h.vertices) c.requires.same;
+      same_graph = c.requires.same_graph;
+      one_each = solved-duals s solved ∙ ap (λ (h : Multigraph). h.vertices) c.requires.same_graph;
       in_range = solved.in_range;
     }
 
@@ -49,9 +49,9 @@ returns c =
     record {
       states = states-with c.args.kind c.args.instance.now s c.in_ok-document.document c.from_vec-duals.result c.from_vec-sets.result _ c.in_ok-document.ensures.states;
       duals = ap (λ (ys : List DualLine). map (λ (y : DualLine). y.dual) ys) c.from_vec-duals.ensures ∙ c.in_ok-dual_lines.ensures.duals;
-      duals_within = subst (λ (h : Multigraph). All (IsDualWithin h.vertices) c.from_vec-duals.result) (sym c.requires.same)
+      duals_within = subst (λ (h : Multigraph). All (IsDualWithin h.vertices) c.from_vec-duals.result) (sym c.requires.same_graph)
           (subst (λ (ys : List DualLine). All (IsDualWithin g.vertices) ys) (sym c.from_vec-duals.ensures) c.in_ok-dual_lines.ensures.in_range);
-      sets = subst (λ (h : Multigraph). ListsSets h.vertices s.sets c.from_vec-sets.result) (sym c.requires.same)
+      sets = subst (λ (h : Multigraph). ListsSets h.vertices s.sets c.from_vec-sets.result) (sym c.requires.same_graph)
           (subst (λ (zs : List SetLine). ListsSets g.vertices s.sets zs) (sym c.from_vec-sets.ensures) c.in_ok-set_lines.ensures);
       only = ap (λ (b : Body). record b { duals = c.from_vec-duals.result; sets = c.from_vec-sets.result }) c.in_ok-document.ensures.only;
     }

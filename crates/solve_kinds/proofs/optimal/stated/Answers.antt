@@ -3,7 +3,7 @@ use Rattle.certificates.proofs.Common.{IsNumber, weight_of, feasible-places, Cou
 use Rattle.doc_format.proofs.OnePartMore.{formed-as}
 use Rattle.document_lines.specs.Lines.{ListsAnswer}
 use Rattle.solve_kinds.proofs.Forms.{form-answered}
-use Rattle.kind_answers.proofs.EachKind.{small}
+use Rattle.solve_answers.proofs.EachKind.{small}
 use Rattle.solve_kinds.proofs.optimal.stated.Goals as goal
 
 pub stated_weight-weight-requires-clause-places : goal.stated_weight-weight-requires-clause-places
@@ -12,8 +12,8 @@ stated_weight-weight-requires-clause-places c = feasible-places c.args.kind c.ar
 pub count_lines-requires-clause-places : goal.count_lines-requires-clause-places
 count_lines-requires-clause-places c = feasible-places c.args.kind c.args.instance.now c.args.answer.now c.requires.feasible
 
-pub count_lines-requires-clause-small : goal.count_lines-requires-clause-small
-count_lines-requires-clause-small c = small c.args.kind c.args.instance.now c.args.answer.now c.requires.network c.requires.feasible
+pub count_lines-requires-clause-value_limit : goal.count_lines-requires-clause-value_limit
+count_lines-requires-clause-value_limit c = small c.args.kind c.args.instance.now c.args.answer.now c.requires.network c.requires.feasible
 
 pub invariant_of-document : goal.invariant_of-document
 invariant_of-document c = record {
@@ -53,7 +53,7 @@ returns c s pays =
         number = subst IsNumber (sym stated) c.requires.number;
         ascending = subst (λ (xs : List CountLine). AscendsBy (λ x. x.edge) xs) (sym c.from_vec-counts.ensures) c.in_ok-count_lines.ensures.ascending;
         counts_within = subst (λ (xs : List CountLine). All (IsCountWithin (length i.edges)) xs) (sym c.from_vec-counts.ensures) c.in_ok-count_lines.ensures.in_range;
-        few_counts = subst (λ (xs : List CountLine). length xs ≤ length i.edges) (sym c.from_vec-counts.ensures) c.in_ok-count_lines.ensures.few;
+        few_counts = subst (λ (xs : List CountLine). length xs ≤ length i.edges) (sym c.from_vec-counts.ensures) c.in_ok-count_lines.ensures.size_limit;
       };
       only = ap (λ (b : Body). record b { counts = c.from_vec-counts.result; walk = c.in_ok-walk.walk }) c.new-document.ensures.body;
     }

@@ -1,27 +1,27 @@
 use Rattle.certificates.proofs.Common.{◌≡◌, ◌≤◌, sym, ◌∙◌, subst, IfOk-weaker, Multigraph, IsGraph, GRAPH_VERTEX_LIMIT, IsBarrier, IsVertexSet}
-use Rattle.certificates.proofs.Common.{exclusion_of}
+use Rattle.certificates.proofs.Common.{obstruction_of}
 use Rattle.graph_theory.specs.Graph.{HasNoLoop}
 use Rattle.solve_kinds.proofs.Presenting.{Solves}
 use Rattle.solve_kinds.proofs.Settling.{settles-for, settles-presented}
-use Rattle.kind_answers.proofs.SettlingSets.{bare-set}
-use Rattle.kind_answers.proofs.PartDocuments.{never-no, settles-barred}
-use Rattle.kind_answers.specs.Excluding.{StatesSet}
+use Rattle.solve_answers.proofs.SettlingSets.{bare-set}
+use Rattle.solve_answers.proofs.PartDocuments.{never-no, settles-barred}
+use Rattle.solve_answers.specs.Excluding.{StatesSet}
 use Rattle.solve_kinds.specs.Presented.{PresentsFor}
-use Rattle.kind_answers.specs.Settled.{SettlesFor}
+use Rattle.solve_answers.specs.Settled.{SettlesFor}
 use Rattle.solve_kinds.proofs.searching.decided.Goals as goal
 
 pub optimal-requires : goal.optimal-requires
 optimal-requires g c = record {
   network = c.requires.network;
   duals = c.requires.duals;
-  ready = c.requires.ready;
+  well_formed = c.requires.well_formed;
   matched = c.in-Matched.ensures.outcome;
-  same = sym c.graph.ensures.graph;
+  same_graph = sym c.graph.ensures.graph;
   solved = c.in-Matched.ensures.ends;
-  good = subst IsGraph (sym c.graph.ensures.graph) c.graph.ensures.good;
-  plain = subst HasNoLoop (sym c.graph.ensures.graph) c.graph.ensures.plain;
+  is_graph = subst IsGraph (sym c.graph.ensures.graph) c.graph.ensures.is_graph;
+  loopless = subst HasNoLoop (sym c.graph.ensures.graph) c.graph.ensures.loopless;
   certified = c.graph.ensures.graph ∙ (c.in-Matched.ensures.graph ∙ c.requires.certified);
-  few_vertices = subst (λ (h : Multigraph). h.vertices ≤ GRAPH_VERTEX_LIMIT) (sym (c.graph.ensures.graph ∙ c.in-Matched.ensures.graph)) c.requires.few;
+  few_vertices = subst (λ (h : Multigraph). h.vertices ≤ GRAPH_VERTEX_LIMIT) (sym (c.graph.ensures.graph ∙ c.in-Matched.ensures.graph)) c.requires.size_limit;
   reached = c.requires.reached;
 }
 
@@ -32,18 +32,19 @@ returns-in-Matched g c =
     let s = c.solve.new.self in
     let brief = c.args.brief in
     let here : s.graph ≡ c.args.engine.now.graph = c.in-Matched.ensures.graph in
-    let few : s.graph.vertices ≤ GRAPH_VERTEX_LIMIT = subst (λ (h : Multigraph). h.vertices ≤ GRAPH_VERTEX_LIMIT) (sym here) c.requires.few in
+    let few : s.graph.vertices ≤ GRAPH_VERTEX_LIMIT = subst (λ (h : Multigraph). h.vertices ≤ GRAPH_VERTEX_LIMIT) (sym here) c.requires.size_limit in
     let of : Solves kind i s =
     record {
       duals = c.requires.duals;
       network = c.requires.network;
       graph = here ∙ c.requires.certified;
-      is_graph = subst IsGraph (here ∙ c.requires.certified) c.graph.ensures.good;
+      is_graph = subst IsGraph (here ∙ c.requires.certified) c.graph.ensures.is_graph;
       reached = c.requires.reached;
       solved = c.in-Matched.ensures.ends;
     } in
     record {
-      settled = IfOk-weaker c.optimal.result (PresentsFor brief kind i s) (SettlesFor brief kind i) (λ d p. settles-presented brief kind i s d few c.requires.fit of p) c.optimal.ensures;
+      settled = IfOk-weaker c.optimal.result (PresentsFor brief kind i s) (SettlesFor brief kind i)
+          (λ d p. settles-presented brief kind i s d few c.requires.conservative of p) c.optimal.ensures;
       steps = c.in-Matched.ensures.steps;
     }
 
@@ -53,9 +54,9 @@ barred-requires g c =
     let s = c.solve.new.self in
     record {
       barrier = c.in-Barrier.ensures.outcome;
-      same = sym c.graph-in-Barrier.ensures.graph;
+      same_graph = sym c.graph-in-Barrier.ensures.graph;
       set = subst (λ (h : Multigraph). IsVertexSet h.vertices s.barrier) (sym c.graph-in-Barrier.ensures.graph) c.in-Barrier.ensures.ends.vertex_set;
-      kind = never-no (exclusion_of kind) c.requires.barrier;
+      kind = never-no (obstruction_of kind) c.requires.barrier;
     }
 
 pub returns-in-Barrier : goal.returns-in-Barrier
@@ -70,7 +71,9 @@ returns-in-Barrier g c =
     let barrier : IsBarrier h s.barrier = subst (λ (k : Multigraph). IsBarrier k s.barrier) here c.in-Barrier.ensures.ends.excludes in
     record {
       settled = IfOk-weaker c.barred.result (StatesSet kind s.barrier) (SettlesFor c.args.brief kind i)
-          (λ d p. settles-for c.args.brief kind i d
-          (settles-barred kind i h s.barrier d r.certified (subst IsGraph here c.graph-in-Barrier.ensures.good) r.few r.reached r.barrier r.network r.fit set barrier p, bare-set kind s.barrier d p)) c.barred.ensures;
+          (λ d p. settles-for c.args.brief kind i d (
+            settles-barred kind i h s.barrier d r.certified (subst IsGraph here c.graph-in-Barrier.ensures.is_graph) r.size_limit r.reached r.barrier r.network r.conservative set barrier p,
+            bare-set kind s.barrier d p,
+          )) c.barred.ensures;
       steps = c.in-Barrier.ensures.steps;
     }

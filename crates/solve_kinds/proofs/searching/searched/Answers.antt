@@ -9,7 +9,7 @@ of-requires g c =
     let kind = c.args.kind in
     let i = c.args.instance.now in
     let e = c.in_ok-graph.ensures in
-    record { limits = graph-limits (certified_size kind i) (size_of kind i) c.in_ok-graph.graph e.size (certified-no-larger kind i) c.requires.limits; plain = e.plain }
+    record { limits = graph-limits (certified_size kind i) (size_of kind i) c.in_ok-graph.graph e.size (certified-no-larger kind i) c.requires.limits; loopless = e.loopless }
 
 pub settled-document-requires : goal.settled-document-requires
 settled-document-requires g c =
@@ -20,14 +20,14 @@ settled-document-requires g c =
     let same : c.in_ok-engine.engine.graph ≡ c.in_ok-graph.graph = c.in_ok-engine.ensures.graph in
     record {
       network = e.network;
-      fresh = c.in_ok-engine.ensures.fresh;
+      not_run = c.in_ok-engine.ensures.not_run;
       duals = c.requires.duals;
-      ready = c.requires.ready;
-      fit = c.requires.fit;
-      few = subst (λ (h : Multigraph). h.vertices ≤ GRAPH_VERTEX_LIMIT) (sym same) limits.vertices;
+      well_formed = c.requires.well_formed;
+      conservative = c.requires.conservative;
+      size_limit = subst (λ (h : Multigraph). h.vertices ≤ GRAPH_VERTEX_LIMIT) (sym same) limits.vertices;
       certified = same ∙ e.graph;
       reached = e.reached;
-      perfect = λ none. subst HasPerfect (sym (same ∙ e.graph)) (searched-perfect kind i c.requires.duals e.network e.reached c.requires.ready.no_part none);
+      perfect = λ none. subst HasPerfect (sym (same ∙ e.graph)) (searched-perfect kind i c.requires.duals e.network e.reached c.requires.well_formed.no_part none);
     }
 
 pub returns-clause-steps : goal.returns-clause-steps

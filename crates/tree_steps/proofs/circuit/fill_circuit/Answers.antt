@@ -18,7 +18,7 @@ push_way-requires-2-clause-room c =
     let ls : List Link = links_above s (before (path_of s c.args.a) c.args.base) in
     let pushed : c.push_way.new.search.circuit.items ≡ ls = c.push_way.ensures.circuit ∙ ap (λ xs. xs ++ ls) c.clear.ensures.items in
     let same : length (before (path_of (state_of c.push_way.new.search) c.args.b) c.args.base) ≡ length (before (path_of s c.args.b) c.args.base) =
-    ap (λ (f : Search). length (before (path_of (state_of f) c.args.b) c.args.base)) c.push_way.ensures.rest in
+    ap (λ (f : Search). length (before (path_of (state_of f) c.args.b) c.args.base)) c.push_way.ensures.frame in
     omega (arith, same, ap length pushed, links_length s (before (path_of s c.args.a) c.args.base))
 
 -- links that are turned are shifted and reversed
@@ -42,14 +42,14 @@ returns-clause-circuit c =
     (c.shift_edges-edge.ensures.links ∙ ap (shifted c.args.e) pushed) (c.shift_edges-edge.ensures.last ∙ ap (last_edge c.args.e) pushed))
     ∙ reverse-append (shifted c.args.e ls) (base ∷ []) in
     c.push_way-2.ensures.circuit
-    ∙ ap (λ (f : Search). c.reverse.new.self.items ++ links_above (state_of f) (before (path_of (state_of f) c.args.b) c.args.base)) c.push_way.ensures.rest
+    ∙ ap (λ (f : Search). c.reverse.new.self.items ++ links_above (state_of f) (before (path_of (state_of f) c.args.b) c.args.base)) c.push_way.ensures.frame
     ∙ ap (λ (xs : List Link). xs ++ ks) turned ∙ ap (λ (xs : List Link). base ∷ xs) (sym (mirror_reverse c.args.e ls ks))
 
 pub push_way-requires-2-clause-outermost : goal.push_way-requires-2-clause-outermost
-push_way-requires-2-clause-outermost c = subst (λ (y : Search). IsOutermost (state_of y) c.args.b) (sym c.push_way.ensures.rest) c.requires.b_outermost
+push_way-requires-2-clause-outermost c = subst (λ (y : Search). IsOutermost (state_of y) c.args.b) (sym c.push_way.ensures.frame) c.requires.b_outermost
 
-pub push_way-requires-2-clause-there : goal.push_way-requires-2-clause-there
-push_way-requires-2-clause-there c = subst (λ (y : Search). holds (path_of (state_of y) c.args.b) c.args.base ≡ true) (sym c.push_way.ensures.rest) c.requires.b_there
+pub push_way-requires-2-clause-on_path : goal.push_way-requires-2-clause-on_path
+push_way-requires-2-clause-on_path c = subst (λ (y : Search). holds (path_of (state_of y) c.args.b) c.args.base ≡ true) (sym c.push_way.ensures.frame) c.requires.b_there
 
-pub returns-clause-rest : goal.returns-clause-rest
-returns-clause-rest c = c.push_way-2.ensures.rest ∙ ap (λ (y : Search). let x : Search = record y { circuit = c.push_way-2.new.search.circuit } in x) c.push_way.ensures.rest
+pub returns-clause-frame : goal.returns-clause-frame
+returns-clause-frame c = c.push_way-2.ensures.frame ∙ ap (λ (y : Search). let x : Search = record y { circuit = c.push_way-2.new.search.circuit } in x) c.push_way.ensures.frame

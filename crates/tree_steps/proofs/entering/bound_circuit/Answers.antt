@@ -1,5 +1,5 @@
 use Rattle.alt_forest.proofs.Common.{subst, ◌∙◌, false, take, refl, ap, arith, both_ways, Link, state_of, take_all}
-use Rattle.event_bounds.specs.declared.bounds.EventBounds.{EventBounds}
+use Rattle.search_keys.specs.declared.bounds.EventBounds.{EventBounds}
 use Rattle.tree_steps.proofs.Among.{in_ring_at, taken_more}
 use Rattle.tree_steps.specs.Moving.{AreEntered}
 use Rattle.tree_steps.proofs.EnteredCircuit.{is_entered, entered_more}
@@ -7,7 +7,7 @@ use Rattle.tree_steps.proofs.entering.bound_circuit.Goals as goal
 
 pub loop-place-init : goal.loop-place-init
 loop-place-init c = record {
-  rest = refl;
+  frame = refl;
   places = c.requires.places;
   entered = record { entered = λ a among. absurd (both_ways false refl among); others = λ a off. refl; vertices = λ a none. refl };
 }
@@ -23,7 +23,7 @@ loop-place-preserved c =
     let l : Link = c.index-link.result.now in let i = c.loop-place.invariant in
     let e = c.enter_blossom.ensures in
     record {
-      rest = e.rest ∙ ap (λ (x : EventBounds). let y : EventBounds = record x { moments = next.moments } in y) i.rest;
+      frame = e.frame ∙ ap (λ (x : EventBounds). let y : EventBounds = record x { moments = next.moments } in y) i.frame;
       places = e.places;
       entered = subst (λ ls. AreEntered (state_of f) f.clock ls c.args.bounds.now.moments next.moments)
           (taken_more f.circuit.items c.loop-place.place l (omega (arith, c.loop-place-test.true, c.len-place-end.ensures)) c.index-link.ensures)

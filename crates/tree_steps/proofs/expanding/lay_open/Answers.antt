@@ -15,23 +15,23 @@ found m a e o r is read by = is ∙ ap Some (sym (by e (read ∙ is)))
 mate_has : (c : goal.After-or_none-parent) → (state_of c.args.search.now).mate c.args.b ≡ Some c.or_none-mate.result
 mate_has c =
     let s = state_of c.args.search.now in
-    found s.mate c.args.b (says (can_open c.args.search.now c.args.b c.requires.sound c.requires.can)).child_edge c.mate.result c.or_none-mate.result
-    (says (can_open c.args.search.now c.args.b c.requires.sound c.requires.can)).mate c.mate.ensures.mate c.or_none-mate.ensures
+    found s.mate c.args.b (says (can_open c.args.search.now c.args.b c.requires.sound c.requires.possible)).child_edge c.mate.result c.or_none-mate.result
+    (says (can_open c.args.search.now c.args.b c.requires.sound c.requires.possible)).mate c.mate.ensures.mate c.or_none-mate.ensures
 
 parent_has : (c : goal.After-or_none-parent) → (state_of c.args.search.now).parent c.args.b ≡ Some c.or_none-parent.result
 parent_has c =
     let s = state_of c.args.search.now in
-    found s.parent c.args.b (says (can_open c.args.search.now c.args.b c.requires.sound c.requires.can)).edge c.parent.result c.or_none-parent.result
-    (says (can_open c.args.search.now c.args.b c.requires.sound c.requires.can)).parent c.parent.ensures.parent c.or_none-parent.ensures
+    found s.parent c.args.b (says (can_open c.args.search.now c.args.b c.requires.sound c.requires.possible)).edge c.parent.result c.or_none-parent.result
+    (says (can_open c.args.search.now c.args.b c.requires.sound c.requires.possible)).parent c.parent.ensures.parent c.or_none-parent.ensures
 
 base_on : (c : goal.After-fill_round-arg-1) → in_ring (ring_of c.args.search.now.arena.blossoms c.args.b) c.child_at-base.result ≡ true
 base_on c = ap (in_ring (ring_of c.args.search.now.arena.blossoms c.args.b)) c.child_at-base.ensures.child
-    ∙ base_found (can_open c.args.search.now c.args.b c.requires.sound c.requires.can) c.or_none-mate.result (mate_has c.before.before.before)
+    ∙ base_found (can_open c.args.search.now c.args.b c.requires.sound c.requires.possible) c.or_none-mate.result (mate_has c.before.before.before)
 
 opens : (c : goal.After-open_at-arg-1)
     → Opens (state_of c.args.search.now) c.requires.sound.depth c.args.b c.or_none-mate.result c.child_at-base.result c.fill_round-first.result c.fill_round-first.new.search.circuit.items
 opens c = record {
-  can = can_open c.args.search.now c.args.b c.requires.sound c.requires.can;
+  possible = can_open c.args.search.now c.args.b c.requires.sound c.requires.possible;
   mate_is = mate_has c.before.before.before.before.before;
   base_is = c.child_at-base.ensures.child;
   round_is = c.fill_round-first.ensures.round;
@@ -39,43 +39,43 @@ opens c = record {
 
 pub child_at-base-requires-clause-leaves : goal.child_at-base-requires-clause-leaves
 child_at-base-requires-clause-leaves c =
-    mate_leaves (can_open c.args.search.now c.args.b c.requires.sound c.requires.can) c.or_none-mate.result (mate_has c)
+    mate_leaves (can_open c.args.search.now c.args.b c.requires.sound c.requires.possible) c.or_none-mate.result (mate_has c)
 
 pub child_at-entry-requires-clause-edge : goal.child_at-entry-requires-clause-edge
-child_at-entry-requires-clause-edge c = (hangs_by (can_open c.args.search.now c.args.b c.requires.sound c.requires.can) c.or_none-parent.result (parent_has c.before)).is_edge
+child_at-entry-requires-clause-edge c = (hangs_by (can_open c.args.search.now c.args.b c.requires.sound c.requires.possible) c.or_none-parent.result (parent_has c.before)).is_edge
 
 pub child_at-entry-requires-clause-leaves : goal.child_at-entry-requires-clause-leaves
 child_at-entry-requires-clause-leaves c =
-    parent_leaves (can_open c.args.search.now c.args.b c.requires.sound c.requires.can) c.or_none-parent.result (parent_has c.before)
+    parent_leaves (can_open c.args.search.now c.args.b c.requires.sound c.requires.possible) c.or_none-parent.result (parent_has c.before)
 
 pub fill_round-first-requires-clause-base : goal.fill_round-first-requires-clause-base
 fill_round-first-requires-clause-base c = base_on c
 
 pub open_at-requires-clause-shape : goal.open_at-requires-clause-shape
-open_at-requires-clause-shape c = shape_with c.args.search.now c.fill_round-first.new.search c.requires.sound.shape c.fill_round-first.ensures.rest c.fill_round-first.ensures.capacity
+open_at-requires-clause-shape c = shape_with c.args.search.now c.fill_round-first.new.search c.requires.sound.shape c.fill_round-first.ensures.frame c.fill_round-first.ensures.capacity
 
 pub open_at-requires-clause-nodes : goal.open_at-requires-clause-nodes
 open_at-requires-clause-nodes c =
     let round = c.fill_round-first.new.search.circuit.items in
-    subst (λ (f : Search). AllByRecursion (λ (l : Link). l.node ≤ node_limit f.graph.vertices) round) (sym c.fill_round-first.ensures.rest) (round_low (opens c))
+    subst (λ (f : Search). AllByRecursion (λ (l : Link). l.node ≤ node_limit f.graph.vertices) round) (sym c.fill_round-first.ensures.frame) (round_low (opens c))
 
 pub open_at-requires-clause-base : goal.open_at-requires-clause-base
 open_at-requires-clause-base c =
-    let can = can_open c.args.search.now c.args.b c.requires.sound c.requires.can in
-    subst (λ (f : Search). c.child_at-base.result ≤ node_limit f.graph.vertices) (sym c.fill_round-first.ensures.rest) (ring_limit can c.child_at-base.result (base_on c.before.before))
+    let can = can_open c.args.search.now c.args.b c.requires.sound c.requires.possible in
+    subst (λ (f : Search). c.child_at-base.result ≤ node_limit f.graph.vertices) (sym c.fill_round-first.ensures.frame) (ring_limit can c.child_at-base.result (base_on c.before.before))
 
 pub take_even_way-requires-clause-even : goal.take_even_way-requires-clause-even
 take_even_way-requires-clause-even c =
-    ap (λ (f : Search). length f.circuit.items % 2) c.open_at.ensures.rest ∙ round_even (opens c.before.before)
+    ap (λ (f : Search). length f.circuit.items % 2) c.open_at.ensures.frame ∙ round_even (opens c.before.before)
 
 pub take_even_way-requires-clause-nodes : goal.take_even_way-requires-clause-nodes
 take_even_way-requires-clause-nodes c =
-    subst (λ (f : Search). AllByRecursion (λ (l : Link). l.node ≤ node_limit f.graph.vertices) f.circuit.items) (sym c.open_at.ensures.rest)
+    subst (λ (f : Search). AllByRecursion (λ (l : Link). l.node ≤ node_limit f.graph.vertices) f.circuit.items) (sym c.open_at.ensures.frame)
     (open_at-requires-clause-nodes c.before.before)
 
 pub take_even_way-requires-clause-base : goal.take_even_way-requires-clause-base
 take_even_way-requires-clause-base c =
-    subst (λ (f : Search). c.child_at-base.result ≤ node_limit f.graph.vertices) (sym c.open_at.ensures.rest) (open_at-requires-clause-base c.before.before)
+    subst (λ (f : Search). c.child_at-base.result ≤ node_limit f.graph.vertices) (sym c.open_at.ensures.frame) (open_at-requires-clause-base c.before.before)
 
 made : (c : goal.After-push_reserved) → Expands (state_of c.args.search.now) (state_of c.take_even_way.new.search) c.args.b
 made c =
@@ -84,9 +84,9 @@ made c =
     let base = c.child_at-base.result in let first = c.fill_round-first.result in
     let parent = c.or_none-parent.result in let entry = c.child_at-entry.result in
     let t : State = state_of c.open_at.new.search in
-    let same : c.open_at.new.search.circuit.items ≡ round = ap (λ (f : Search). f.circuit.items) c.open_at.ensures.rest in
+    let same : c.open_at.new.search.circuit.items ≡ round = ap (λ (f : Search). f.circuit.items) c.open_at.ensures.frame in
     let is : t ≡ opened s c.args.b base round c.or_none-mate.result = c.open_at.ensures.state
-    ∙ ap (λ (f : Search). opened (state_of f) c.args.b base round c.or_none-mate.result) c.fill_round-first.ensures.rest in
+    ∙ ap (λ (f : Search). opened (state_of f) c.args.b base round c.or_none-mate.result) c.fill_round-first.ensures.frame in
     let place : ℕ = length (before (nodes_of round) entry) in
     let there : place ≡ length (before (nodes_of c.open_at.new.search.circuit.items) entry) = sym (ap (λ (ls : List Link). length (before (nodes_of ls) entry)) same) in
     goes_even_way (opens at) parent entry place (parent_has at.before.before.before.before.before) c.child_at-entry.ensures.child refl (state_of c.take_even_way.new.search)
@@ -97,7 +97,7 @@ made c =
 pub push_reserved-requires : goal.push_reserved-requires
 push_reserved-requires c =
     let room : Search → Type 0 = λ y. vec_len y.circuit + 1 ≤ vec_capacity y.circuit in
-    omega (arith, subst room (sym c.take_even_way.ensures.rest) (subst room (sym c.open_at.ensures.rest) c.fill_round-first.ensures.room))
+    omega (arith, subst room (sym c.take_even_way.ensures.frame) (subst room (sym c.open_at.ensures.frame) c.fill_round-first.ensures.room))
 
 pub returns : goal.returns
 returns c =
@@ -107,11 +107,11 @@ returns c =
     record {
       expanded = e.is;
       circuit = λ a. ap (λ (ls : List Link). in_ring ls a) (c.push_reserved.ensures.items
-          ∙ ap (λ (y : Search). y.circuit.items ++ (base ∷ [])) c.take_even_way.ensures.rest ∙ ap (λ (y : Search). y.circuit.items ++ (base ∷ [])) c.open_at.ensures.rest)
+          ∙ ap (λ (y : Search). y.circuit.items ++ (base ∷ [])) c.take_even_way.ensures.frame ∙ ap (λ (y : Search). y.circuit.items ++ (base ∷ [])) c.open_at.ensures.frame)
           ∙ round_whole (opens c.before.before.before.before.before) a;
-      rest = rw (c.take_even_way.ensures.rest, c.open_at.ensures.rest, c.fill_round-first.ensures.rest) refl;
+      frame = rw (c.take_even_way.ensures.frame, c.open_at.ensures.frame, c.fill_round-first.ensures.frame) refl;
       sound = record { shape = shape_with f k c.take_even_way.ensures.shape refl c.push_reserved.ensures.capacity; depth = e.after; state = e.state };
-      still = λ a ne. ap (λ (y : Search). label_at y.arena.motions a) c.take_even_way.ensures.rest ∙ ap (λ (y : Search). label_at y.arena.motions a) c.open_at.ensures.rest
-          ∙ get_or-set_other c.fill_round-first.new.search.arena.motions c.args.b a Out Out ne ∙ ap (λ (y : Search). label_at y.arena.motions a) c.fill_round-first.ensures.rest;
+      outside_unchanged = λ a ne. ap (λ (y : Search). label_at y.arena.motions a) c.take_even_way.ensures.frame ∙ ap (λ (y : Search). label_at y.arena.motions a) c.open_at.ensures.frame
+          ∙ get_or-set_other c.fill_round-first.new.search.arena.motions c.args.b a Out Out ne ∙ ap (λ (y : Search). label_at y.arena.motions a) c.fill_round-first.ensures.frame;
       roots = e.roots;
     }

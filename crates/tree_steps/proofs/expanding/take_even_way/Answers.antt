@@ -40,7 +40,7 @@ returns-then-place-eq0 c =
     record {
       down = λ place is even. ap₂ (rehung (state_of s)) e.labels e.parents ∙ ap hung (left ∙ ap₂ drop (at place is) c.deref-then-place-eq0.ensures.value);
       up = λ place is odd. absurd (omega (arith, odd, c.if-place-eq0.true, at place is));
-      rest = refl;
+      frame = refl;
       shape = shape_hung s (record s { labels = c.climb_down.new.labels; parents = c.climb_down.new.parents }) c.requires.shape e.labels_len e.parents_len;
     }
 
@@ -52,6 +52,6 @@ returns c =
     record {
       down = λ place is even. absurd (c.if-place-eq0.false (omega (arith, even, at place is)));
       up = λ place is odd. ap₂ (rehung (state_of s)) e.labels e.parents ∙ ap₂ hung (at place is) c.deref-2.ensures.value;
-      rest = refl;
+      frame = refl;
       shape = shape_hung s (record s { labels = c.climb_up.new.labels; parents = c.climb_up.new.parents }) c.requires.shape e.labels_len e.parents_len;
     }

@@ -7,23 +7,23 @@ use Rattle.tree_steps.proofs.Grown.{grows, grow_keeps, paired}
 use Rattle.tree_steps.proofs.growth.take_in.Goals as goal
 
 pub mate_node-mate-requires-clause-outermost : goal.mate_node-mate-requires-clause-outermost
-mate_node-mate-requires-clause-outermost c = rw (c.far_node-far.ensures c.requires.can) c.requires.can.far_is
+mate_node-mate-requires-clause-outermost c = rw (c.far_node-far.ensures c.requires.possible) c.requires.possible.far_is
 
 pub set_label-requires : goal.set_label-requires
 set_label-requires c =
-    let far = c.far_node-far.ensures c.requires.can in
-    record { place = omega (arith, far, label_place c.args.search.now c.requires.can.far c.requires.sound.shape c.requires.can.far_is) }
+    let far = c.far_node-far.ensures c.requires.possible in
+    record { place = omega (arith, far, label_place c.args.search.now c.requires.possible.far c.requires.sound.shape c.requires.possible.far_is) }
 
 pub set_label-requires-2 : goal.set_label-requires-2
 set_label-requires-2 c =
-    let pair = paired c.args.search.now c.args.e c.far_node-far.result c.mate_node-mate.result c.requires.sound c.requires.can
-    (c.far_node-far.ensures c.requires.can) c.mate_node-mate.ensures in
+    let pair = paired c.args.search.now c.args.e c.far_node-far.result c.mate_node-mate.result c.requires.sound c.requires.possible
+    (c.far_node-far.ensures c.requires.possible) c.mate_node-mate.ensures in
     record { place = omega (arith, label_place c.args.search.now c.mate_node-mate.result c.requires.sound.shape pair.outermost, c.set_label.ensures.len) }
 
 pub set_edge-requires : goal.set_edge-requires
 set_edge-requires c =
-    let far = c.far_node-far.ensures c.requires.can in
-    record { place = omega (arith, far, parent_place c.args.search.now c.requires.can.far c.requires.sound.shape c.requires.can.far_is) }
+    let far = c.far_node-far.ensures c.requires.possible in
+    record { place = omega (arith, far, parent_place c.args.search.now c.requires.possible.far c.requires.sound.shape c.requires.possible.far_is) }
 
 pub returns-clause-mate : goal.returns-clause-mate
 returns-clause-mate c = λ can. paired c.args.search.now c.args.e c.far_node-far.result c.mate_node-mate.result c.requires.sound can (c.far_node-far.ensures can) c.mate_node-mate.ensures
@@ -36,7 +36,7 @@ returns-clause-grown c = λ can.
 
 pub returns-clause-sound : goal.returns-clause-sound
 returns-clause-sound c =
-    let h = c.requires.sound in let can = c.requires.can in
+    let h = c.requires.sound in let can = c.requires.possible in
     let new : Search = record c.args.search.now { labels = c.set_label-2.new.labels; parents = c.set_edge.new.edges } in
     let keeps = grow_keeps (grows c.args.search.now c.args.e c.mate_node-mate.result h can
     (paired c.args.search.now c.args.e c.far_node-far.result c.mate_node-mate.result h can (c.far_node-far.ensures can) c.mate_node-mate.ensures)) in

@@ -4,7 +4,7 @@ use Rattle.tree_steps.proofs.scanning.scan_circuit.Given as goal
 
 abbrev pub invariant-loop-place : goal.invariant-loop-place
 invariant-loop-place l = record {
-  rest : l.search ≡ record l.fn.search { scanned = l.search.scanned };
+  frame : l.search ≡ record l.fn.search { scanned = l.search.scanned };
   capacity : vec_capacity l.search.scanned ≡ vec_capacity l.fn.search.scanned;
   scanned : l.search.scanned.items ++ newly_outer (state_of l.fn.search) (drop l.place l.fn.search.circuit.items) ≡ newly_outer (state_of l.fn.search) l.fn.search.circuit.items;
 }

@@ -5,7 +5,7 @@ use Rattle.tree_steps.proofs.shrinking.close.Goals as goal
 
 pub mate-mate-requires-clause-outermost : goal.mate-mate-requires-clause-outermost
 mate-mate-requires-clause-outermost c =
-    let h = c.requires.can.shrinkable in
+    let h = c.requires.possible.shrinkable in
     circuit_outer c.args.search.now.graph.vertices c.args.search.now.arena.blossoms c.args.search.now.circuit.items c.args.base h.circuit h.base_in
 
 module _ (c : goal.After-set_edge) where
@@ -40,11 +40,11 @@ returns-clause-state c =
 
 pub returns-clause-sound : goal.returns-clause-sound
 returns-clause-sound c =
-    let h = c.requires.sound.shape in let can = c.requires.can in
+    let h = c.requires.sound.shape in let can = c.requires.possible in
     let nested : IsNested (old c).vertex_count (made_of (old c).blossoms (items c) (node c) ∷ (old c).blossoms) =
-    subst (λ (f : Family). IsNested f.vertex_count f.blossoms) (family c) c.shrink-node.ensures.good.nested in
+    subst (λ (f : Family). IsNested f.vertex_count f.blossoms) (family c) c.shrink-node.ensures.is_family.nested in
     let after : ℕ → ℕ = put can.depth (node c) (can.depth c.args.base) in
-    let good = c.shrink-node.ensures.good in
+    let good = c.shrink-node.ensures.is_family in
     let arena = ap (λ (f : Family). f.vertex_count) (family c) ∙ h.arena in
     let labels = c.set_label.ensures.len ∙ h.labels in let mates = c.set_edge.ensures.len ∙ h.mates in
     record {
@@ -54,7 +54,7 @@ returns-clause-sound c =
           (subst (λ k. IsNested k (made_of (old c).blossoms (items c) (node c) ∷ (old c).blossoms)) h.arena nested) can));
     }
 
-pub returns-clause-still : goal.returns-clause-still
-returns-clause-still c = λ a ne off.
+pub returns-clause-outside_unchanged : goal.returns-clause-outside_unchanged
+returns-clause-outside_unchanged c = λ a ne off.
     ap (λ (f : Family). label_at f.motions a) (family c) ∙ get_or-set_other (rested (old c).motions (nodes_of (items c))) (node c) a Out Out ne
     ∙ rested_out (old c).motions (nodes_of (items c)) a off

@@ -9,22 +9,22 @@ use Rattle.tree_steps.proofs.shrinking.close_by.Goals as goal
 pub scan_circuit-requires-clause-circuit : goal.scan_circuit-requires-clause-circuit
 scan_circuit-requires-clause-circuit c =
     let f = c.args.search.now in
-    subst (λ (y : Search). IsCircuit y.graph.vertices y.arena.blossoms c.fill_closed-base.new.search.circuit.items) (sym c.fill_closed-base.ensures.rest)
-    (subst (λ (ls : List Link). IsCircuit f.graph.vertices f.arena.blossoms ls) (sym c.fill_closed-base.ensures.circuit) c.fill_closed-base.ensures.closes.can.shrinkable.circuit)
+    subst (λ (y : Search). IsCircuit y.graph.vertices y.arena.blossoms c.fill_closed-base.new.search.circuit.items) (sym c.fill_closed-base.ensures.frame)
+    (subst (λ (ls : List Link). IsCircuit f.graph.vertices f.arena.blossoms ls) (sym c.fill_closed-base.ensures.circuit) c.fill_closed-base.ensures.closes.possible.shrinkable.circuit)
 
 module _ (c : goal.After-close-arg-1) where
   same : state_of c.scan_circuit.new.search ≡ state_of c.args.search.now
-  same = ap state_of c.scan_circuit.ensures.rest ∙ ap state_of c.fill_closed-base.ensures.rest
+  same = ap state_of c.scan_circuit.ensures.frame ∙ ap state_of c.fill_closed-base.ensures.frame
 
   items : c.scan_circuit.new.search.circuit.items ≡ closed_by (state_of c.args.search.now) c.args.e
-  items = ap (λ (y : Search). y.circuit.items) c.scan_circuit.ensures.rest ∙ c.fill_closed-base.ensures.circuit
+  items = ap (λ (y : Search). y.circuit.items) c.scan_circuit.ensures.frame ∙ c.fill_closed-base.ensures.circuit
 
-pub close-requires-clause-can : goal.close-requires-clause-can
-close-requires-clause-can c =
+pub close-requires-clause-possible : goal.close-requires-clause-possible
+close-requires-clause-possible c =
     let k = c.scan_circuit.new.search in
     subst (λ (s : State). CanClose s k.circuit.items c.fill_closed-base.result) (sym (same c))
     (subst (λ (ls : List Link). CanClose (state_of c.args.search.now) ls c.fill_closed-base.result) (sym (items c))
-    (subst (CanClose (state_of c.args.search.now) (closed_by (state_of c.args.search.now) c.args.e)) (sym c.fill_closed-base.ensures.base) c.fill_closed-base.ensures.closes.can))
+    (subst (CanClose (state_of c.args.search.now) (closed_by (state_of c.args.search.now) c.args.e)) (sym c.fill_closed-base.ensures.base) c.fill_closed-base.ensures.closes.possible))
 
 pub returns-clause-state : goal.returns-clause-state
 returns-clause-state c =
@@ -35,10 +35,10 @@ returns-clause-state c =
 
 pub returns-clause-scanned : goal.returns-clause-scanned
 returns-clause-scanned c =
-    ap (λ (y : Search). y.scanned.items) c.close.ensures.rest
-    ∙ c.scan_circuit.ensures.scanned ∙ ap₂ (λ (s : State) (ls : List Link). newly_outer s ls) (ap state_of c.fill_closed-base.ensures.rest) c.fill_closed-base.ensures.circuit
+    ap (λ (y : Search). y.scanned.items) c.close.ensures.frame
+    ∙ c.scan_circuit.ensures.scanned ∙ ap₂ (λ (s : State) (ls : List Link). newly_outer s ls) (ap state_of c.fill_closed-base.ensures.frame) c.fill_closed-base.ensures.circuit
 
-pub returns-clause-still : goal.returns-clause-still
-returns-clause-still c = λ a ne off.
-    c.close.ensures.still a ne (ap (λ (ls : List Link). in_ring ls a) (items c.before) ∙ off)
-    ∙ ap (λ (y : Search). label_at y.arena.motions a) c.scan_circuit.ensures.rest ∙ ap (λ (y : Search). label_at y.arena.motions a) c.fill_closed-base.ensures.rest
+pub returns-clause-outside_unchanged : goal.returns-clause-outside_unchanged
+returns-clause-outside_unchanged c = λ a ne off.
+    c.close.ensures.outside_unchanged a ne (ap (λ (ls : List Link). in_ring ls a) (items c.before) ∙ off)
+    ∙ ap (λ (y : Search). label_at y.arena.motions a) c.scan_circuit.ensures.frame ∙ ap (λ (y : Search). label_at y.arena.motions a) c.fill_closed-base.ensures.frame

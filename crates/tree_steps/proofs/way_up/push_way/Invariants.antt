@@ -4,7 +4,7 @@ use Rattle.tree_steps.proofs.way_up.push_way.Given as goal
 
 abbrev pub invariant-loop-base : goal.invariant-loop-base
 invariant-loop-base l = record {
-  rest : l.search ≡ record l.fn.search { circuit = l.search.circuit };
+  frame : l.search ≡ record l.fn.search { circuit = l.search.circuit };
   capacity : vec_capacity l.search.circuit ≡ vec_capacity l.fn.search.circuit;
   pushed : IsPushed (state_of l.fn.search) l.node l.base l.search.circuit.items l.fn.search.circuit.items l.fn.from;
 }

@@ -4,8 +4,8 @@ use Rattle.blossom_arena.proofs.Held.{dual_number}
 use Rattle.blossom_arena.proofs.Nested.{outermost_parts}
 use Rattle.blossom_arena.specs.Family.{names_of, dual_at}
 use Rattle.blossom_arena.specs.declared.label.Label.TheVariants.{Inner}
-use Rattle.edge_queue.specs.declared.item.Item.TheVariants.{Blossom}
-use Rattle.edge_queue.specs.Moments.{Moments, IsItem, moment_of}
+use Rattle.search_heap.specs.declared.item.Item.TheVariants.{Blossom}
+use Rattle.search_heap.specs.Moments.{Moments, IsItem, moment_of}
 use Rattle.alt_forest.specs.declared.search.Search.{Search}
 use Rattle.alt_forest.specs.State.{IsOutermost}
 use Rattle.alt_forest.specs.Searches.{HasShape, IsSound, state_of}
@@ -18,7 +18,7 @@ pub moment_after-moment-requires : goal.moment_after-moment-requires
 moment_after-moment-requires c =
     let s = c.args.self.now in let back : to_z w128 (of_z w128 c.from.result) ≡ c.dual.result = search rules in
     let name : holds (names_of s.arena.blossoms) c.args.node ≡ true = sym c.is_blossom.ensures.blossom ∙ c.if-not-is_blossom.false in
-    let most = (dual_number s.arena.duals c.args.node c.dual.ensures.good.duals.in_range).1 in
+    let most = (dual_number s.arena.duals c.args.node c.dual.ensures.is_family.duals.in_range).1 in
     record {
       low = c.requires.low;
       high = c.requires.high;
@@ -40,7 +40,7 @@ returns-then-eq c =
     let name : holds (names_of s.arena.blossoms) c.args.node ≡ true = sym c.is_blossom.ensures.blossom ∙ c.if-not-is_blossom.false in
     let inner : c.label.result ≡ Inner = search rules in
     record {
-      rest = refl;
+      frame = refl;
       sound = subst (λ (q : Moments). IsSound (record s { queue = q })) (sym c.set.ensures) (sound_set s (Blossom c.args.node) _ c.requires.sound);
       entered = λ named is lab. ap (λ (q : Moments). moment_of q (Blossom c.args.node)) c.set.ensures ∙ blossom_set s.queue c.args.node _ here
           ∙ ap (λ (x : ℤ). let o : Option ℤ = Some x in o) (moment ∙ c.moment_after-moment.ensures ∙ ap (λ (x : ℤ). s.clock +ℤ x) (back ∙ c.dual.ensures.dual));
@@ -55,9 +55,9 @@ dual-requires c = rw c.requires.sound.shape.arena (outermost_parts c.args.self.n
 pub returns-then-not-is_blossom : goal.returns-then-not-is_blossom
 returns-then-not-is_blossom c =
     let unnamed = sym c.is_blossom.ensures.blossom ∙ c.if-not-is_blossom.true in
-    record { rest = refl; sound = c.requires.sound; entered = λ named. absurd (both_ways _ unnamed named); none = λ h. refl; others = λ b ne. refl; edges = refl }
+    record { frame = refl; sound = c.requires.sound; entered = λ named. absurd (both_ways _ unnamed named); none = λ h. refl; others = λ b ne. refl; edges = refl }
 
 pub returns-else-eq : goal.returns-else-eq
 returns-else-eq c =
     let other : c.label.result ≢ Inner = search rules in
-    record { rest = refl; sound = c.requires.sound; entered = λ named is lab. absurd (other (c.label.ensures.label ∙ lab)); none = λ h. refl; others = λ b ne. refl; edges = refl }
+    record { frame = refl; sound = c.requires.sound; entered = λ named is lab. absurd (other (c.label.ensures.label ∙ lab)); none = λ h. refl; others = λ b ne. refl; edges = refl }

@@ -1,15 +1,15 @@
 use Rattle.graph_theory.proofs.Common.{◌≡◌, ◌∙◌, ℕ, ◌+◌, ℤ, pos, List, length, Option, None, refl, ap, subst, sym, length-replicate, most_blossoms}
 use Rattle.blossom_arena.specs.Family.{Family, dual_at, empty_family}
-use Rattle.edge_queue.specs.Moments.{Moments, moment_of}
-use Rattle.edge_queue.proofs.Maps.{new_has_none}
+use Rattle.search_heap.specs.Moments.{Moments, moment_of}
+use Rattle.search_heap.proofs.Maps.{new_has_none}
 use Rattle.blossom_arena.specs.declared.label.Label.TheVariants.{Out}
 use Rattle.alt_forest.specs.declared.weights.Weights.TheVariants.{Zero}
 use Rattle.alt_forest.specs.Trees.{node_limit}
 use Rattle.alt_forest.specs.Searches.{label_at, IsSearchGraph}
-use Rattle.alt_forest.specs.Standing.{AreListed}
+use Rattle.alt_forest.specs.TreeNodes.{AreListed}
 use Rattle.alt_forest.proofs.Fresh.{fresh, same_entry}
 use Rattle.alt_forest.proofs.Listed.{none_listed}
-use Rattle.alt_forest.proofs.NoTree.{none_queued, none_standing}
+use Rattle.alt_forest.proofs.NoTree.{none_queued, none_tree_nodes}
 use Rattle.alt_forest.proofs.search.Search.of.Goals as goal
 
 pub returns-clause-shape : goal.returns-clause-shape
@@ -20,7 +20,7 @@ returns-clause-shape c =
     let one_more = ap (λ (n : ℕ). n + 1) limit in let none : Option ℤ = None in
     rw k.graph (assumption (
       c.requires.graph,
-      c.in_ok-arena.ensures.good,
+      c.in_ok-arena.ensures.is_family,
       count,
       k.lists.label_places ∙ one_more,
       k.lists.parent_places ∙ one_more,
@@ -29,7 +29,7 @@ returns-clause-shape c =
       k.incidence,
       ap (λ (q : Moments). length q.edges) k.queue ∙ length-replicate (length c.args.graph.edges) none,
       ap (λ (q : Moments). length q.blossoms) k.queue ∙ length-replicate c.node_limit.result none ∙ limit,
-      k.lists.seed_places ∙ one_more,
+      k.lists.tree_id_places ∙ one_more,
       k.lists.scanned,
     ))
 
@@ -44,14 +44,14 @@ returns-clause-sound c =
           (λ v iv. ap (λ (f : Family). dual_at f.duals v) c.in_ok-arena.ensures.family ∙ same_entry _ v (pos 0));
     }
 
-pub returns-clause-queued : goal.returns-clause-queued
-returns-clause-queued c = none_queued _ c.in_ok-kept.ensures.lists.labels refl (λ item. ap (λ (q : Moments). moment_of q item) c.in_ok-kept.ensures.queue ∙ new_has_none _ _ item)
+pub returns-clause-event_times : goal.returns-clause-event_times
+returns-clause-event_times c = none_queued _ c.in_ok-kept.ensures.lists.labels refl (λ item. ap (λ (q : Moments). moment_of q item) c.in_ok-kept.ensures.queue ∙ new_has_none _ _ item)
 
-pub returns-clause-standing : goal.returns-clause-standing
-returns-clause-standing c =
-    none_standing _ c.in_ok-kept.ensures.lists.labels (λ a. ap (λ (f : Family). label_at f.motions a) c.in_ok-arena.ensures.family ∙ same_entry _ a Out)
-    (subst (λ (xs : List ℕ). AreListed c.in_ok-kept.field-0.kept.graph.vertices xs c.in_ok-kept.field-0.lists.standing.seeds) (sym c.in_ok-kept.ensures.lists.listed)
-    (none_listed c.in_ok-kept.field-0.kept.graph.vertices c.in_ok-kept.field-0.lists.standing.seeds c.in_ok-kept.ensures.lists.seeds))
+pub returns-clause-listed : goal.returns-clause-listed
+returns-clause-listed c =
+    none_tree_nodes _ c.in_ok-kept.ensures.lists.labels (λ a. ap (λ (f : Family). label_at f.motions a) c.in_ok-arena.ensures.family ∙ same_entry _ a Out)
+    (subst (λ (xs : List ℕ). AreListed c.in_ok-kept.field-0.kept.graph.vertices xs c.in_ok-kept.field-0.lists.tree_nodes.tree_ids) (sym c.in_ok-kept.ensures.lists.listed)
+    (none_listed c.in_ok-kept.field-0.kept.graph.vertices c.in_ok-kept.field-0.lists.tree_nodes.tree_ids c.in_ok-kept.ensures.lists.tree_ids))
 
 pub returns-clause-arena : goal.returns-clause-arena
 returns-clause-arena c = c.in_ok-arena.ensures.family ∙ ap empty_family c.vertices.ensures.count

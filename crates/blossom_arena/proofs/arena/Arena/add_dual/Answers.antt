@@ -29,8 +29,8 @@ invariant_of-self c =
     raised_outer c.self.inside _ c.args.node c.number-number.result c.args.d c.raise.new.self c.self.invariant c.self.view_is c.requires.node c.number-number.ensures
     c.requires.in_range c.requires.not_below written c.raise.ensures.motions c.index.result.now c.index.ensures c.if-index-eq0.true
 
-pub returns-then-index-eq0-clause-good : goal.returns-then-index-eq0-clause-good
-returns-then-index-eq0-clause-good c = (invariant_of-self c).family
+pub returns-then-index-eq0-clause-is_family : goal.returns-then-index-eq0-clause-is_family
+returns-then-index-eq0-clause-is_family c = (invariant_of-self c).family
 
 pub of-requires : goal.of-requires
 of-requires c =
@@ -71,5 +71,5 @@ invariant_of-self-2 c =
     c.requires.in_range c.requires.not_below written c.raise.ensures.motions c.index.result.now c.index.ensures c.add_each.new.self c.if-index-eq0.false
     (c.add_each.ensures.placement ∙ ap₂ (all_added (placement_of c.self.inside.partition)) members back)
 
-pub returns-clause-good : goal.returns-clause-good
-returns-clause-good c = (invariant_of-self-2 c).family
+pub returns-clause-is_family : goal.returns-clause-is_family
+returns-clause-is_family c = (invariant_of-self-2 c).family

@@ -26,5 +26,5 @@ returns-clause-duals c = λ x.
     c.advance.new.self (each c) c.advance.ensures.len c.advance.ensures.motions x
     ∙ ap (λ (f : Family). dual_at f.duals x +ℤ gain f c.args.d x) c.self.view_is
 
-pub returns-clause-good : goal.returns-clause-good
-returns-clause-good c = (invariant_of-self c).family
+pub returns-clause-is_family : goal.returns-clause-is_family
+returns-clause-is_family c = (invariant_of-self c).family

@@ -7,7 +7,13 @@ use Rattle.blossom_arena.proofs.arena.Arena.blossoms.Goals as goal
 
 pub overflow_cast-len : goal.overflow_cast-len
 overflow_cast-len c =
-    omega (arith, c.len.ensures, blossoms_len c.self.inside, blossoms_few c.self.inside.vertex_count (blossoms_of c.self.inside) c.self.invariant.family.nested, c.self.invariant.family.few)
+    omega (
+      arith,
+      c.len.ensures,
+      blossoms_len c.self.inside,
+      blossoms_few c.self.inside.vertex_count (blossoms_of c.self.inside) c.self.invariant.family.nested,
+      c.self.invariant.family.size_limit,
+    )
 
 pub of-requires : goal.of-requires
 of-requires c =

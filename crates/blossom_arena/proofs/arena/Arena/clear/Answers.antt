@@ -28,7 +28,7 @@ is_fresh c =
     let older_len : vec_len a.older ≡ places = omega (arith, c.self.invariant.places.older) in
     let newer_len : vec_len a.newer ≡ places = omega (arith, c.self.invariant.places.newer) in
     record {
-      few = c.self.invariant.family.few;
+      size_limit = c.self.invariant.family.size_limit;
       slots = c.clear.ensures.empty;
       room = c.clear.ensures.capacity ∙ c.self.invariant.room;
       duals = c.wipe.ensures ∙ ap empty_table c.self.invariant.family.duals.one_each;
@@ -48,4 +48,4 @@ invariant_of-self c = fresh_sound (after c) (is_fresh c)
 pub returns : goal.returns
 returns c =
     let family = fresh_family (after c) (is_fresh c) ∙ ap (λ (f : Family). empty_family f.vertex_count) c.self.view_is in
-    record { family = family; good = (fresh_sound (after c) (is_fresh c)).family }
+    record { family = family; is_family = (fresh_sound (after c) (is_fresh c)).family }

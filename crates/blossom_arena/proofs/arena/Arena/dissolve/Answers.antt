@@ -130,5 +130,5 @@ returns c =
           (there a _ c.args.b c.number-node.result c.self.invariant c.self.view_is c.requires.blossom c.number-node.ensures)
           (is_free a _ c.args.b c.number-node.result c.self.view_is c.requires.outermost c.number-node.ensures) (changes c))
           ∙ ap₂ (λ (f : Family) (x : ℕ). dissolved f x) c.self.view_is c.number-node.ensures;
-      good = (sound c).family;
+      is_family = (sound c).family;
     }

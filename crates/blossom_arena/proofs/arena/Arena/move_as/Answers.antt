@@ -25,5 +25,5 @@ invariant_of-self c =
     (motions_with c.self.inside.vertex_count (blossoms_of c.self.inside) c.self.inside.duals.motions c.number.result c.args.label
     (outer c.self.inside _ c.args.node c.number.result c.self.view_is c.requires c.number.ensures) c.self.invariant.family.motions))
 
-pub returns-clause-good : goal.returns-clause-good
-returns-clause-good c = (invariant_of-self c).family
+pub returns-clause-is_family : goal.returns-clause-is_family
+returns-clause-is_family c = (invariant_of-self c).family

@@ -40,5 +40,5 @@ returns c =
     let whole : part +ℤ c.dual.result ≡ sum = omega (arith, ints, outer) in
     record {
       near_sum = added ∙ wrapped c.inner-inner.result part c.dual.result sum inner whole ∙ int_wrap_fits w64 sum (omega (arith, ints, c.requires.near.0, c.requires.near.1));
-      good = c.outermost.ensures.good;
+      is_family = c.outermost.ensures.is_family;
     }

@@ -7,7 +7,7 @@ pub invariant_of-result : goal.invariant_of-result
 invariant_of-result c =
     let places : c.args.n + c.saturating_sub.result / 2 + 1 ≡ c.args.n + most_blossoms c.args.n + 1 = omega (arith, c.saturating_sub.ensures) in
     fresh_sound _ (record {
-      few = c.requires;
+      size_limit = c.requires;
       slots = c.in_ok-kept.ensures.empty;
       room = omega (arith, places, c.in_ok-kept.ensures.room);
       duals = c.in_ok-duals.ensures ∙ ap empty_table places;
@@ -21,5 +21,5 @@ invariant_of-result c =
       followers = omega (arith, c.in_ok-followers.ensures.len);
     })
 
-pub returns-clause-good : goal.returns-clause-good
-returns-clause-good c = (invariant_of-result c).family
+pub returns-clause-is_family : goal.returns-clause-is_family
+returns-clause-is_family c = (invariant_of-result c).family

@@ -7,5 +7,5 @@ invariant_of-self c =
     motions_sound c.self.inside c.self.invariant c.rest.new.self c.rest.ensures.values
     (record { one_each = c.rest.ensures.len ∙ c.self.invariant.family.motions.one_each; inside = λ a e. c.rest.ensures.motions a })
 
-pub returns-clause-good : goal.returns-clause-good
-returns-clause-good c = (invariant_of-self c).family
+pub returns-clause-is_family : goal.returns-clause-is_family
+returns-clause-is_family c = (invariant_of-self c).family

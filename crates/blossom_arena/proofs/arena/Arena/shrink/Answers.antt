@@ -22,7 +22,7 @@ join-run-requires c =
       some = omega (arith, c.self.invariant.places.followers);
       within = subst (λ m. AllByRecursion (λ (r : Run). r.tail < m) (runs_of a.vertex_count a.kept c.args.circuit.now)) (sym len)
           (tails_within a c.args.circuit.now c.self.invariant (circuit a _ c.args.circuit.now c.self.invariant c.self.view_is c.requires));
-      few = omega (arith, sizes_few a _ c.args.circuit.now c.self.invariant c.self.view_is c.requires);
+      size_limit = omega (arith, sizes_few a _ c.args.circuit.now c.self.invariant c.self.view_is c.requires);
     }
 
 pub overflow_cast-links : goal.overflow_cast-links
@@ -146,5 +146,5 @@ returns c =
           ∙ ap₂ (λ (ys : List ℤ) (ms : List Label).
           record { vertex_count = a.vertex_count; duals = ys; motions = ms; blossoms = made_of (blossoms_of a) ring (node c) ∷ blossoms_of a }) changed.duals changed.motions
           ∙ ap₂ (λ (f : Family) (x : ℕ). shrunk f x ring) c.self.view_is (sym c.new.ensures);
-      good = (sound c).family;
+      is_family = (sound c).family;
     }

@@ -9,8 +9,8 @@ pub loop-set-init : goal.loop-set-init
 loop-set-init c =
     let f = c.args.self.now in
     let read : c.index.result.now.set ≡ set_of f c.args.q
-    = ap (λ (z : Place). z.set) (get_or_read f.places.items c.args.q c.index.result.now c.requires.there c.index.ensures no_place) in
-    subst (λ x. IsClimb c.args.count f c.args.p c.args.q x) (sym read) (climb_starts c.args.sets.now c.args.count f c.args.p c.args.q c.requires.grown c.requires.there)
+    = ap (λ (z : Place). z.set) (get_or_read f.places.items c.args.q c.index.result.now c.requires.in_range c.index.ensures no_place) in
+    subst (λ x. IsClimb c.args.count f c.args.p c.args.q x) (sym read) (climb_starts c.args.sets.now c.args.count f c.args.p c.args.q c.requires.grown c.requires.in_range)
 
 pub returns-in_default : goal.returns-in_default
 returns-in_default c =

@@ -1,5 +1,5 @@
 use Rattle.graph_theory.proofs.Common.{◌≡◌, ◌∙◌, subst, sym}
-use Rattle.dual_check.specs.Trees.{IsSpread, AreParents, AreSizes, AreEnds, AreOwn, AreJumps, AreAround, roots_to}
+use Rattle.dual_check.specs.Trees.{IsSpread, AreParents, AreSizes, AreEnds, AreOwn, AreJumps, AreEnclosing, roots_to}
 use Rattle.dual_check.proofs.GrownLemmas.{grown}
 use Rattle.dual_check.proofs.forest.Forest.of.Goals as goal
 
@@ -23,8 +23,8 @@ places_of-requires-clause-spread c =
 pub jumps_of-requires : goal.jumps_of-requires
 jumps_of-requires c = subst (AreParents c.args.sets.now c.args.count) (sym c.as_slice-parent_list.ensures.value) c.in_ok-parents.ensures
 
-pub around_of-requires : goal.around_of-requires
-around_of-requires c =
+pub enclosing_of-requires : goal.enclosing_of-requires
+enclosing_of-requires c =
     let parents = subst (AreParents c.args.sets.now c.args.count) (sym c.as_slice-parent_list.ensures.value) c.in_ok-parents.ensures in
     record { count = c.requires.count; parents = parents; numbers = c.requires.numbers }
 
@@ -41,5 +41,5 @@ returns c =
       long = c.in_ok-places.ensures.size ∙ subst (λ p. c.in_ok-total.total ≡ roots_to n p sizes n) parents c.in_ok-total.ensures;
       own = subst (λ b. AreOwn sets n b c.in_ok-places.places.items) begins c.in_ok-places.ensures.own;
       jumps = subst (λ p. AreJumps n p 0 c.in_ok-jumps.jumps.items) parents c.in_ok-jumps.ensures;
-      around = subst (λ p. AreAround sets n p c.in_ok-around.around.items) parents c.in_ok-around.ensures;
+      enclosing = subst (λ p. AreEnclosing sets n p c.in_ok-enclosing.enclosing.items) parents c.in_ok-enclosing.ensures;
     })

@@ -7,17 +7,17 @@ read totals v at z there same is = get_or_read totals at z (omega (arith, there,
 
 pub overflow_sub-result : goal.overflow_sub-result
 overflow_sub-result c =
-    let here = read c.args.self.now.with_vertex.items c.args.vertex c.number.result c.index.result.now c.requires.there c.number.ensures c.index.ensures in
+    let here = read c.args.self.now.with_vertex.items c.args.vertex c.number.result c.index.result.now c.requires.in_range c.number.ensures c.index.ensures in
     omega (arith, ints, here, c.requires.whole.0, c.requires.whole.1, c.requires.with_vertex.0, c.requires.with_vertex.1)
 
 pub returns-clause-exact : goal.returns-clause-exact
 returns-clause-exact c =
-    let here = read c.args.self.now.with_vertex.items c.args.vertex c.number.result c.index.result.now c.requires.there c.number.ensures c.index.ensures in
+    let here = read c.args.self.now.with_vertex.items c.args.vertex c.number.result c.index.result.now c.requires.in_range c.number.ensures c.index.ensures in
     omega (arith, ints, here, c.requires.whole.0, c.requires.whole.1, c.requires.with_vertex.0, c.requires.with_vertex.1)
 
-pub returns-clause-small : goal.returns-clause-small
-returns-clause-small c =
-    let here = read c.args.self.now.with_vertex.items c.args.vertex c.number.result c.index.result.now c.requires.there c.number.ensures c.index.ensures in (
+pub returns-clause-value_limit : goal.returns-clause-value_limit
+returns-clause-value_limit c =
+    let here = read c.args.self.now.with_vertex.items c.args.vertex c.number.result c.index.result.now c.requires.in_range c.number.ensures c.index.ensures in (
       omega (arith, ints, here, c.requires.whole.0, c.requires.whole.1, c.requires.with_vertex.0, c.requires.with_vertex.1),
       omega (arith, ints, here, c.requires.whole.0, c.requires.whole.1, c.requires.with_vertex.0, c.requires.with_vertex.1),
     )

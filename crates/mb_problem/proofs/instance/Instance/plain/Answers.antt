@@ -17,11 +17,11 @@ loop-edge-preserved c =
     let so_far = c.loop-edge.invariant in
     let same : to_z w64 (of_z w64 e.w) ≡ e.w = search rules in
     let all : IsPlainTo i (k + 1) c.if-ne.graph = elim c.if-ne.branch [
-      | then-ne+in_ok-add w ↦ plain-more i es k e g c.if-ne.graph list c.loop-edge-test.true c.edge-item.is same (sym c.ne.ensures ∙ w.if-ne.true) so_far.graph so_far.few
+      | then-ne+in_ok-add w ↦ plain-more i es k e g c.if-ne.graph list c.loop-edge-test.true c.edge-item.is same (sym c.ne.ensures ∙ w.if-ne.true) so_far.graph so_far.size_limit
           (w.graph-is ∙ w.in_ok-add.ensures.added)
-      | else-ne w ↦ plain-same i es k e g c.if-ne.graph list c.loop-edge-test.true c.edge-item.is (sym c.ne.ensures ∙ w.if-ne.false) so_far.graph so_far.few w.graph-is
+      | else-ne w ↦ plain-same i es k e g c.if-ne.graph list c.loop-edge-test.true c.edge-item.is (sym c.ne.ensures ∙ w.if-ne.false) so_far.graph so_far.size_limit w.graph-is
     ] in
-    record { graph = all.graph; few = all.few; plain = all.plain }
+    record { graph = all.graph; size_limit = all.size_limit; loopless = all.loopless }
 
 pub returns-clause-graph : goal.returns-clause-graph
 returns-clause-graph c =
@@ -29,8 +29,8 @@ returns-clause-graph c =
     let past : length i.edges ≤ c.loop-edge.edge-index = rw c.edge_list-edge-items.ensures.list at c.loop-edge-test.false in
     c.loop-edge.invariant.graph ∙ ap (λ es. plain_graph (record i { edges = es })) (take_all c.loop-edge.edge-index i.edges past)
 
-pub returns-clause-plain : goal.returns-clause-plain
-returns-clause-plain c = c.loop-edge.invariant.plain
+pub returns-clause-loopless : goal.returns-clause-loopless
+returns-clause-loopless c = c.loop-edge.invariant.loopless
 
 pub add-requires-clause-weight : goal.add-requires-clause-weight
 add-requires-clause-weight c =

@@ -5,6 +5,6 @@ use Rattle.mb_problem.proofs.instance.Instance.plain.Given as goal
 abbrev pub invariant-loop-edge : goal.invariant-loop-edge
 invariant-loop-edge l = record {
   graph : l.graph ≡ record { vertices = vertices l.self; edges = filter (λ e. not (is_loop e)) (map plain (take l.edge-index l.self.edges)) };
-  few : length l.graph.edges ≤ l.edge-index;
-  plain : HasNoLoop l.graph;
+  size_limit : length l.graph.edges ≤ l.edge-index;
+  loopless : HasNoLoop l.graph;
 }

@@ -19,4 +19,4 @@ invariant_of-result c =
     (made_limit c.args.vertices c.saturating_sub-blossoms.result s.graph.vertices c.saturating_sub-blossoms.ensures same) b.hints b.keys same in
     let nodes = subst (λ (xs : List NodeId). AllByRecursion (λ b. is_node s.graph.vertices s.arena.blossoms b ≡ true) xs) (sym list.empty) tt in
     let room = list.room in let few = c.in_ok-sets.sets.ok.0 in
-    record { shape = c.requires.shape; places = places; nodes = nodes; few = omega (arith, none, few); room = omega (arith, room, same); parted = λ q. absurd (none_yet q) }
+    record { shape = c.requires.shape; places = places; nodes = nodes; size_limit = omega (arith, none, few); room = omega (arith, room, same); parted = λ q. absurd (none_yet q) }

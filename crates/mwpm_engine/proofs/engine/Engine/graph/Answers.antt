@@ -6,4 +6,4 @@ use Rattle.mwpm_engine.proofs.engine.Engine.graph.Goals as goal
 pub returns : goal.returns
 returns c =
     let same = ap (λ (t : Solution). t.graph) c.self.view_is in
-    record { graph = same; good = subst IsGraph same c.self.invariant.shape.graph.graph; plain = subst HasNoLoop same c.self.invariant.shape.graph.plain }
+    record { graph = same; is_graph = subst IsGraph same c.self.invariant.shape.graph.graph; loopless = subst HasNoLoop same c.self.invariant.shape.graph.loopless }

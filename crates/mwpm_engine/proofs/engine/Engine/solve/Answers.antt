@@ -34,10 +34,10 @@ invariant_of-self g c =
     let s : Search = c.solve-outcome.new.search in let e = c.solve-outcome.ensures in
     let l = c.list_sets.ensures in let list = c.list_sets.new.sets in
     let nodes = subst (λ n. AllByRecursion (λ b. is_node n s.arena.blossoms b ≡ true) list.items) e.shape.arena l.nodes in
-    let few = subst (λ n. vec_len list ≤ most_blossoms n) e.shape.arena l.few in
+    let few = subst (λ n. vec_len list ≤ most_blossoms n) e.shape.arena l.size_limit in
     let had = subst (λ (k : Multigraph). most_blossoms k.vertices ≤ vec_capacity c.self.inside.sets) (sym e.graph) c.self.invariant.room in
     let room = subst (λ n. most_blossoms s.graph.vertices ≤ n) (sym l.capacity) had in
-    record { shape = e.shape; places = e.places; nodes = nodes; few = few; room = room; parted = λ q. parted_of s c.solve-outcome.result e.concludes q }
+    record { shape = e.shape; places = e.places; nodes = nodes; size_limit = few; room = room; parted = λ q. parted_of s c.solve-outcome.result e.concludes q }
 
 pub returns : goal.returns
 returns g c =
@@ -45,9 +45,9 @@ returns g c =
     let e = c.solve-outcome.ensures in
     let done = ends c.solve-outcome.new.search c.solve-outcome.result c.list_sets.new.sets.items e.concludes c.list_sets.ensures.proving in
     let steps = subst (λ (k : Multigraph). c.solve-outcome.new.steps ≤ c.args.steps.now + most_steps (size_of_graph k)) same
-    (allowed c.self.inside.search.graph _ (λ k. most_steps (size_of_graph k)) _ _ e.steps refl (most_enough _ good.graph good.plain)) in
+    (allowed c.self.inside.search.graph _ (λ k. most_steps (size_of_graph k)) _ _ e.steps refl (most_enough _ good.graph good.loopless)) in
     let close = subst (λ (k : Multigraph). c.solve-outcome.new.steps ≤ c.args.steps.now + close_steps (size_of_graph k)) same
-    (allowed c.self.inside.search.graph _ (λ k. close_steps (size_of_graph k)) _ _ e.steps refl (close_enough _ good.graph good.plain)) in
+    (allowed c.self.inside.search.graph _ (λ k. close_steps (size_of_graph k)) _ _ e.steps refl (close_enough _ good.graph good.loopless)) in
     record {
       outcome = refl;
       graph = e.graph ∙ same;
@@ -56,5 +56,5 @@ returns g c =
       close_bound = close;
       alike = λ is w all. subst (λ (k : Multigraph). 2 * c.solve-outcome.new.steps ≤ 2 * c.args.steps.now + most_steps (size_of_graph k)) same
           (halved c.self.inside.search.graph _ (λ k. most_steps (size_of_graph k)) _ _ (e.alike is w (subst (λ (k : Multigraph). AllWeigh k w) (sym same) all)) refl
-          (most_enough _ good.graph good.plain));
+          (most_enough _ good.graph good.loopless));
     }

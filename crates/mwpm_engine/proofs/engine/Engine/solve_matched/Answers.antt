@@ -23,10 +23,10 @@ invariant_of-self g c =
     let s : Search = c.solve_matched.new.search in let e = c.solve_matched.ensures in
     let l = c.list_sets.ensures in let list = c.list_sets.new.sets in
     let nodes = subst (λ n. AllByRecursion (λ b. is_node n s.arena.blossoms b ≡ true) list.items) e.shape.arena l.nodes in
-    let few = subst (λ n. vec_len list ≤ most_blossoms n) e.shape.arena l.few in
+    let few = subst (λ n. vec_len list ≤ most_blossoms n) e.shape.arena l.size_limit in
     let had = subst (λ (k : Multigraph). most_blossoms k.vertices ≤ vec_capacity c.self.inside.sets) (sym e.graph) c.self.invariant.room in
     let room = subst (λ n. most_blossoms s.graph.vertices ≤ n) (sym l.capacity) had in
-    record { shape = e.shape; places = e.places; nodes = nodes; few = few; room = room; parted = λ q. absurd (let same : Some Matched ≡ Some Barrier = q in cc) }
+    record { shape = e.shape; places = e.places; nodes = nodes; size_limit = few; room = room; parted = λ q. absurd (let same : Some Matched ≡ Some Barrier = q in cc) }
 
 pub returns : goal.returns
 returns g c =
@@ -34,7 +34,7 @@ returns g c =
     let e = c.solve_matched.ensures in
     let done = ends c.solve_matched.new.search Matched c.list_sets.new.sets.items e.concludes c.list_sets.ensures.proving in
     let steps = subst (λ (k : Multigraph). 2 * c.solve_matched.new.steps ≤ 2 * c.args.steps.now + most_steps (size_of_graph k)) same
-    (halved c.self.inside.search.graph _ (λ k. most_steps (size_of_graph k)) _ _ e.steps refl (most_enough _ good.graph good.plain)) in
+    (halved c.self.inside.search.graph _ (λ k. most_steps (size_of_graph k)) _ _ e.steps refl (most_enough _ good.graph good.loopless)) in
     let close = subst (λ (k : Multigraph). 2 * c.solve_matched.new.steps ≤ 2 * c.args.steps.now + close_steps (size_of_graph k)) same
-    (halved c.self.inside.search.graph _ (λ k. close_steps (size_of_graph k)) _ _ e.steps refl (close_enough _ good.graph good.plain)) in
+    (halved c.self.inside.search.graph _ (λ k. close_steps (size_of_graph k)) _ _ e.steps refl (close_enough _ good.graph good.loopless)) in
     record { outcome = refl; graph = e.graph ∙ same; ends = done; steps = steps; close_bound = close }

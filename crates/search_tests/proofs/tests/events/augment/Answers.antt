@@ -1,4 +1,4 @@
 use Rattle.search_tests.proofs.tests.events.augment.Goals as goal
 
-pub returns-then-trees_stay-clause-planted : goal.returns-then-trees_stay-clause-planted
-returns-then-trees_stay-clause-planted g c = c.join.ensures.planted c.requires.planted
+pub returns-then-trees_stay-clause-all_rooted : goal.returns-then-trees_stay-clause-all_rooted
+returns-then-trees_stay-clause-all_rooted g c = c.join.ensures.all_rooted c.requires.all_rooted

@@ -1,10 +1,10 @@
-use Rattle.alt_forest.proofs.Common.{◌≡◌, IsSound, IsQueued, IsStanding}
+use Rattle.alt_forest.proofs.Common.{◌≡◌, IsSound, IsQueued, HasTreeNodes}
 use Rattle.search_tests.proofs.tests.events.plant_all.Given as goal
 
 abbrev pub invariant-loop : goal.invariant-loop
 invariant-loop g l = record {
   sound : IsSound l.search;
-  queued : IsQueued l.search;
-  standing : IsStanding l.search;
+  event_times : IsQueued l.search;
+  listed : HasTreeNodes l.search;
   same : l.graph ≡ l.search.graph;
 }

@@ -4,6 +4,6 @@ use Rattle.search_tests.proofs.tests.phases.augment_count.Given as goal
 
 abbrev pub invariant-loop-count : goal.invariant-loop-count
 invariant-loop-count g l = record {
-  ready : IsReady l.search;
+  well_formed : IsReady l.search;
   same : l.graph ≡ l.search.graph;
 }

@@ -1,5 +1,0 @@
-use Rattle.blossom_c.proofs.KindNumbers.{is_numbered}
-use Rattle.blossom_c.proofs.numbers.kind_numbered.Goals as goal
-
-pub returns : goal.returns
-returns c = is_numbered c.args.number c.numbered.result c.numbered.ensures

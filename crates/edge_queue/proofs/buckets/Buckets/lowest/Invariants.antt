@@ -1,6 +1,0 @@
-use Rattle.graph_theory.proofs.Common.{◌≢◌, ℕ, ◌<◌, ◌≤◌, Option, Some}
-use Rattle.edge_queue.specs.Rising.{IsHomed}
-use Rattle.edge_queue.proofs.buckets.Buckets.lowest.Given as goal
-
-abbrev pub invariant-loop-list : goal.invariant-loop-list
-invariant-loop-list l = (home : ℕ → Option ℕ) → IsHomed l.self home → (s k : ℕ) → 2 ≤ k → k < l.list → home s ≢ Some k

@@ -1,6 +1,0 @@
-use Rattle.std.proofs.Common.{◌-◌, pos, ◌+ℤ◌, ◌≤ℤ◌}
-use Rattle.edge_queue.specs.Rising.{end_at}
-use Rattle.edge_queue.proofs.ends.find_bucket.Given as goal
-
-abbrev pub invariant-loop-bucket : goal.invariant-loop-bucket
-invariant-loop-bucket l = (end_at l.ends (l.bucket - 1) +ℤ pos 1) ≤ℤ l.moment

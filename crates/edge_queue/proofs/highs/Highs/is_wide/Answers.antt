@@ -1,7 +1,0 @@
-use Rattle.std.proofs.Common.{subst, rules}
-use Rattle.edge_queue.specs.Heaps.{IsZeroAt}
-use Rattle.edge_queue.proofs.Zeros.{zero_at}
-use Rattle.edge_queue.proofs.highs.Highs.is_wide.Goals as goal
-
-pub returns : goal.returns
-returns c = λ off. subst IsZeroAt c.self.view_is (zero_at c.self.inside.slots c.self.inside.table.items (search rules))

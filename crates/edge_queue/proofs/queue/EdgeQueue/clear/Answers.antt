@@ -1,9 +1,0 @@
-use Rattle.std.proofs.Common.{length, ap, ◌∙◌}
-use Rattle.edge_queue.specs.Moments.{no_moments}
-use Rattle.edge_queue.proofs.Items.{by_item_cleared}
-use Rattle.edge_queue.proofs.queue.EdgeQueue.clear.Goals as goal
-
-pub returns : goal.returns
-returns c =
-    by_item_cleared c.self.inside.edges c.self.inside.nodes c.self.inside.heap c.clear.new.self c.self.invariant.0 c.clear.ensures
-    ∙ ap (λ q. no_moments (length q.edges) (length q.blossoms)) c.self.view_is

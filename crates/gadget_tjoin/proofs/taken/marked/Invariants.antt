@@ -1,5 +1,0 @@
-use Rattle.gadget_tjoin.proofs.Marks.{AreMarked}
-use Rattle.gadget_tjoin.proofs.taken.marked.Given as goal
-
-abbrev pub invariant-loop-place : goal.invariant-loop-place
-invariant-loop-place l = AreMarked l.marks l.place l.edges.items

@@ -1,8 +1,0 @@
-use Rattle.mb_problem.proofs.Common.{sym, subst, IsGraph, network-graph}
-use Rattle.kind_answers.proofs.parts.split_part.Goals as goal
-
-pub split_by-document-requires-clause-good : goal.split_by-document-requires-clause-good
-split_by-document-requires-clause-good c = subst IsGraph (sym c.in_ok-graph.ensures) (network-graph c.args.instance.now c.requires.network)
-
-pub returns : goal.returns
-returns c = c.split_by-document.ensures c.args.instance.now c.requires.network c.requires.weights c.in_ok-graph.ensures

@@ -1,9 +1,0 @@
-use Rattle.graph_theory.proofs.Common.{◌≡◌, ◌*◌, ◌≤◌, sum_to}
-use Rattle.mb_problem.specs.Size.{spare_copies}
-use Rattle.mb_problem.proofs.gates.spare_copies.Given as goal
-
-abbrev pub invariant-loop-k : goal.invariant-loop-k
-invariant-loop-k l = record {
-  sum : l.spare ≡ sum_to (spare_copies l.instance) l.k;
-  small : l.spare ≤ 4096 * l.k;
-}

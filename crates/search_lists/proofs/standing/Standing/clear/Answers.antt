@@ -1,5 +1,0 @@
-use Rattle.graph_theory.proofs.Common.{arith, length_permutation}
-use Rattle.search_lists.proofs.standing.Standing.clear.Goals as goal
-
-pub loop-node-smaller : goal.loop-node-smaller
-loop-node-smaller c = omega (arith, length_permutation _ _ c.unlist.ensures.nodes)

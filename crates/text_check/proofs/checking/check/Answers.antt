@@ -1,4 +1,0 @@
-use Rattle.text_check.proofs.checking.check.Goals as goal
-
-pub returns : goal.returns
-returns c = c.check_parts.ensures c.args.bytes.now c.read-parts.ensures.reading

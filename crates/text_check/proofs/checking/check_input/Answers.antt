@@ -1,5 +1,0 @@
-use Rattle.graph_theory.proofs.Common.{sym}
-use Rattle.text_check.proofs.checking.check_input.Goals as goal
-
-pub returns : goal.returns
-returns c = rw (sym c.deref.ensures.value) (c.check_parts.ensures c.deref.result.now c.read-parts.ensures.reading)

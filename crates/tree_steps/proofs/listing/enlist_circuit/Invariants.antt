@@ -1,6 +1,0 @@
-use Rattle.graph_theory.proofs.Common.{take}
-use Rattle.tree_steps.specs.Moving.{AreEnlisted}
-use Rattle.tree_steps.proofs.listing.enlist_circuit.Given as goal
-
-abbrev pub invariant-loop-place : goal.invariant-loop-place
-invariant-loop-place l = AreEnlisted l.fn.search l.search (take l.place l.fn.search.circuit.items) l.fn.seed
