@@ -49,7 +49,7 @@ fn answered<L: Ledger>(
     terminals: &[u32],
     steps: &mut Steps<L>,
 ) -> Result<ArrayAnswer, OutOfMemory>
-    requires same { instance.old ≡ graph_network (arrays_of arrays.now) }
+    requires same_graph { instance.old ≡ graph_network (arrays_of arrays.now) }
     requires bare { HasNoTerminals instance.old }
     requires faultless { joins_fault (arrays_of arrays.now) starts.now terminals.now ≡ None }
     requires starts { starts_fault starts.now (length terminals.now) ≡ None }
@@ -74,7 +74,7 @@ fn answered_unless<L: Ledger>(
     steps: &mut Steps<L>,
 ) -> Result<ArrayAnswer, OutOfMemory>
     requires loopless { arrays.now.values.now ≡ [] }
-    requires same { instance.old ≡ graph_network (arrays_of arrays.now) }
+    requires same_graph { instance.old ≡ graph_network (arrays_of arrays.now) }
     requires faultless { IsFaultless TJoin (arrays_of arrays.now) }
     ensures answer { IfOk result (λ a. GivesJoins (arrays_of arrays.now) starts.now terminals.now
         a.numbers.items a.status) }

@@ -122,7 +122,7 @@ fn answer_set<L: Ledger>(
     requires size_limit { length terminals.now < 2 ^ 32 }
     ensures answer { IfOk result (AnswersSet instance.old terminals.now) }
     ensures steps { steps.new ≤ steps.old + set_steps instance.old terminals.now }
-    ensures same { instance.new ≡ instance.old }
+    ensures unchanged { instance.new ≡ instance.old }
 {
     let fault = mark(instance, terminals);
     let outcome = answer_unless(alloc, instance, fault, steps);

@@ -4,7 +4,7 @@ ghost use Rattle.join_check.specs.Checks.{at, IsLength};
 
 /// Adds a length to the one at a place.
 pub(crate) fn add_length(lengths: &mut [i64], place: usize, more: i64)
-    requires there { place < length lengths.old }
+    requires in_range { place < length lengths.old }
     requires value_limit { IsLength (at lengths.old place) }
     requires more { IsLength more }
     ensures size { length lengths.new ≡ length lengths.old }
@@ -16,7 +16,7 @@ pub(crate) fn add_length(lengths: &mut [i64], place: usize, more: i64)
 
 /// Adds 1 to the count at a place, or nothing.
 pub(crate) fn add_if(counts: &mut [usize], place: usize, counts_it: bool)
-    requires there { place < length counts.old }
+    requires in_range { place < length counts.old }
     requires value_limit { slice_index counts.old place < 2 ^ 32 }
     ensures size { length counts.new ≡ length counts.old }
     ensures each { (x : ℕ) → slice_index counts.new x

@@ -8,7 +8,7 @@ use std::alloc::Global;
 
 /// Where a vertex is in its spanning tree.
 #[derive(Clone, Copy)]
-struct Stop {
+struct TreePlace {
     is_seen: bool,
     parent: VertexId,
     depth: u32,
@@ -16,8 +16,8 @@ struct Stop {
 }
 
 /// A vertex that no tree has come to.
-fn unseen() -> Stop {
-    Stop {
+fn unseen() -> TreePlace {
+    TreePlace {
         is_seen: false,
         parent: VertexId::new(0),
         depth: 0,
@@ -105,7 +105,7 @@ fn odd_vertices(
 /// A walk along spanning trees: where each vertex is, and those that it has yet to go on from.
 #[derive(Drop)]
 struct Walk {
-    stops: Vec<Stop>,
+    places: Vec<TreePlace>,
     stack: Vec<VertexId>,
     odd: Vec<bool>,
     leaves: Leaves,
@@ -113,27 +113,27 @@ struct Walk {
 
 impl Walk {
     /// Where a vertex is.
-    fn stop(&self, vertex: VertexId) -> Stop {
-        item_at(&self.stops, vertex.number(), unseen())
+    fn place(&self, vertex: VertexId) -> TreePlace {
+        item_at(&self.places, vertex.number(), unseen())
     }
 
     /// Adds a vertex to the tree, which the walk goes on from later.
-    fn see(&mut self, vertex: VertexId, stop: Stop) -> Result<(), OutOfMemory> {
-        set_item(&mut self.stops, vertex.number(), stop);
+    fn see(&mut self, vertex: VertexId, place: TreePlace) -> Result<(), OutOfMemory> {
+        set_item(&mut self.places, vertex.number(), place);
         self.stack.push(vertex)?;
         Ok(())
     }
 
     /// Adds the neighbours of a vertex to its tree.
     fn see_neighbours(&mut self, arcs: &Arcs, vertex: VertexId) -> Result<(), OutOfMemory> {
-        let stop = self.stop(vertex);
+        let place = self.place(vertex);
         for arc in arcs.at(vertex) {
-            if !self.stop(arc.head).is_seen {
-                let next = Stop {
+            if !self.place(arc.head).is_seen {
+                let next = TreePlace {
                     is_seen: true,
                     parent: vertex,
-                    depth: stop.depth.wrapping_add(1),
-                    distance: stop.distance.wrapping_add(arc.length),
+                    depth: place.depth.wrapping_add(1),
+                    distance: place.distance.wrapping_add(arc.length),
                 };
                 self.see(arc.head, next)?;
             }
@@ -145,21 +145,21 @@ impl Walk {
     fn distance(&self, one: VertexId, other: VertexId) -> i64 {
         let mut here = one;
         let mut there = other;
-        for _ in 0..self.stops.len() {
+        for _ in 0..self.places.len() {
             if here == there {
                 break;
             }
-            if self.stop(here).depth >= self.stop(there).depth {
-                here = self.stop(here).parent;
+            if self.place(here).depth >= self.place(there).depth {
+                here = self.place(here).parent;
             } else {
-                there = self.stop(there).parent;
+                there = self.place(there).parent;
             }
         }
-        let above = self.stop(here).distance.wrapping_mul(2);
+        let above = self.place(here).distance.wrapping_mul(2);
         let both = self
-            .stop(one)
+            .place(one)
             .distance
-            .wrapping_add(self.stop(other).distance);
+            .wrapping_add(self.place(other).distance);
         both.wrapping_sub(above)
     }
 
@@ -187,7 +187,7 @@ impl Walk {
         let mut first = unseen();
         first.is_seen = true;
         self.see(root, first)?;
-        for _ in 0..self.stops.len() {
+        for _ in 0..self.places.len() {
             let Some(vertex) = self.stack.pop() else {
                 return Ok(());
             };
@@ -203,7 +203,7 @@ impl Walk {
         let mut trees = 0u32;
         for place in 0..vertices {
             let vertex = VertexId::new(place + 1);
-            if !self.stop(vertex).is_seen {
+            if !self.place(vertex).is_seen {
                 trees = trees.wrapping_add(1);
                 self.walk_from(arcs, vertex)?;
                 if self.leaves.count % 2 == 1 {
@@ -228,7 +228,7 @@ fn walk_of(alloc: Global, instance: &Instance, parity: Parity) -> Result<Walk, O
         is_forest: false,
     };
     Ok(Walk {
-        stops: vec![in alloc; unseen(); places]?,
+        places: vec![in alloc; unseen(); places]?,
         stack: Vec::new(alloc),
         odd: odd_vertices(alloc, instance, parity)?,
         leaves,

@@ -5,7 +5,7 @@ use Rattle.array_joins.proofs.Answered.{no-terminals, start-given}
 use Rattle.array_joins.proofs.calling.answered_unless.Goals as goal
 
 pub answered-requires-clause-bare : goal.answered-requires-clause-bare
-answered-requires-clause-bare g c = subst HasNoTerminals (sym c.requires.same) (no-terminals (arrays_of c.args.arrays.now) c.requires.loopless)
+answered-requires-clause-bare g c = subst HasNoTerminals (sym c.requires.same_graph) (no-terminals (arrays_of c.args.arrays.now) c.requires.loopless)
 
 pub returns-in-Some-clause-answer : goal.returns-in-Some-clause-answer
 returns-in-Some-clause-answer g c =

@@ -31,7 +31,7 @@ loop-k-preserved g c =
     let spent = counted i c.loop-k.instance s ts c.set_at-set.result.now k c.args.steps.now c.loop-k.steps c.answer_set.new.steps c.loop-k-test.true c.loop-k.invariant.same
     c.set_at-set.ensures.set c.loop-k.invariant.steps c.answer_set.ensures.steps in
     record {
-      same = c.answer_set.ensures.same ∙ c.loop-k.invariant.same;
+      same = c.answer_set.ensures.unchanged ∙ c.loop-k.invariant.same;
       answers = set-answered i c.loop-k.instance s ts c.set_at-set.result.now k c.loop-k.outcomes.items c.push.new.self.items c.in_ok-answer_set.field-0 c.loop-k.invariant.same
           c.set_at-set.ensures.set c.in_ok-push.ensures.items c.loop-k.invariant.answers c.in_ok-answer_set.ensures.answer;
       steps = omega (arith, spent, steps-more i s ts k);

@@ -27,8 +27,8 @@ returns-clause-steps g c =
     ap (steps_by f) c.mark-fault.ensures.marked ∙ marked-steps f i ts ∙ ap (λ (e : Option TerminalFault). steps_by e (network_with i ts)) c.mark-fault.ensures.fault in
     omega (arith, same, c.answer_unless-outcome.ensures.steps)
 
-pub returns-clause-same : goal.returns-clause-same
-returns-clause-same g c =
+pub returns-clause-unchanged : goal.returns-clause-unchanged
+returns-clause-unchanged g c =
     let i : Network = c.args.instance.now in
     let ts : List ℕ = c.args.terminals.now in
     c.unmark.ensures ∙ ap (λ (j : Network). unmarked j ts) c.mark-fault.ensures.marked ∙ unmarked-with i c.mark-fault.result ts c.requires.bare

@@ -10,7 +10,7 @@ add_if-requires c =
     let k = c.loop-vertex.vertex in
     let node = slice_index c.args.nodes.now k in
     record {
-      there = omega (arith, c.requires.nodes k c.loop-vertex-test.true, c.loop-vertex.invariant.size);
+      in_range = omega (arith, c.requires.nodes k c.loop-vertex-test.true, c.loop-vertex.invariant.size);
       value_limit = omega (arith, c.loop-vertex.invariant.each node, at-most c.args.odd.now c.args.nodes.now node k, c.loop-vertex-test.true, c.requires.size_limit);
     }
 

@@ -23,7 +23,7 @@ add_length-requires c =
     let here = c.loop-node.invariant.each (slice_index befores k) in
     let read = fits-read (at lengths k) own in
     record {
-      there = omega (arith, early, inside, c.loop-node.invariant.one_each);
+      in_range = omega (arith, early, inside, c.loop-node.invariant.one_each);
       value_limit = (omega (arith, ints, here, part.0), omega (arith, ints, here, part.1));
       more = (omega (arith, ints, read, own.0), omega (arith, ints, read, own.1));
     }
