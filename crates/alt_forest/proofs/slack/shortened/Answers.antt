@@ -2,4 +2,4 @@ use Rattle.alt_forest.proofs.Routes.{drop_more}
 use Rattle.alt_forest.proofs.slack.shortened.Goals as goal
 
 pub loop-preserved : goal.loop-preserved
-loop-preserved c = drop_more c.next.result c.args.chain c.loop.frame c.next.new.self c.loop.counter c.next.ensures.steps c.loop.invariant
+loop-preserved c = drop_more c.next.result c.args.chain c.loop.rest c.next.new.self c.loop.counter c.next.ensures.steps c.loop.invariant

@@ -11,9 +11,9 @@ loop-preserved c =
     omega (arith, ints, same, c.loop.invariant.low, c.loop.invariant.high, c.dual_or_zero.ensures.in_range.0, c.dual_or_zero.ensures.in_range.1, c.requires.size_limit, c.loop-test.true) in
     let back : to_z w128 (of_z w128 (to_z w128 c.loop.sum-bits +ℤ to_z w128 (of_z w128 c.from-sum.result))) ≡ to_z w128 c.loop.sum-bits +ℤ c.from-sum.result = search rules in
     record {
-      sum = total_step (dual_at c.args.arena.now.duals) c.next.result c.loop.frame c.next.new.self c.args.nodes c.loop.counter _ _ c.from-sum.result _ c.next.ensures.steps
+      sum = total_step (dual_at c.args.arena.now.duals) c.next.result c.loop.rest c.next.new.self c.args.nodes c.loop.counter _ _ c.from-sum.result _ c.next.ensures.steps
           c.loop-test.true (same ∙ c.dual_or_zero.ensures.dual) back c.loop.invariant.sum;
-      nodes = each_left (λ a. is_node c.args.arena.now.vertex_count c.args.arena.now.blossoms a ≡ true) c.next.result c.loop.frame c.next.new.self
+      nodes = each_left (λ a. is_node c.args.arena.now.vertex_count c.args.arena.now.blossoms a ≡ true) c.next.result c.loop.rest c.next.new.self
           c.next.ensures.steps c.loop.invariant.nodes;
       low = omega (arith, ints, back, same, c.loop.invariant.low, c.dual_or_zero.ensures.in_range.0);
       high = omega (arith, ints, back, same, c.loop.invariant.high, c.dual_or_zero.ensures.in_range.1);
@@ -26,4 +26,4 @@ pub returns-clause-total : goal.returns-clause-total
 returns-clause-total c =
     let none : 0 ≡ c.args.nodes - c.loop.counter = omega arith in
     no_more (to_z w128 c.loop.sum-bits)
-    ∙ ap (λ (k : ℕ). to_z w128 c.loop.sum-bits +ℤ total_of (dual_at c.args.arena.now.duals) (take k c.loop.frame)) none ∙ c.loop.invariant.sum
+    ∙ ap (λ (k : ℕ). to_z w128 c.loop.sum-bits +ℤ total_of (dual_at c.args.arena.now.duals) (take k c.loop.rest)) none ∙ c.loop.invariant.sum
