@@ -1,7 +1,7 @@
 -- Lemmas on a pass over a list of places, which adds a number to the total at each.
 use Rattle.graph_theory.proofs.Common.{◌≡◌, ◌∙◌, sym, ap, subst, refl, inl, inr, arith, set, ℕ, ◌+◌, ◌<◌, ◌≤◌, ℤ, pos, ◌+ℤ◌, Bool, true, false, cond, eqb}
 use Rattle.graph_theory.proofs.Common.{◌||◌, List, length, get_or, take, ints, cases_eq, eq-eqb, eqb-true, ne_eqb, false≢true, get_or_read, take_all, IsStrictlyIncreasing, Multigraph}
-use Rattle.graph_theory.proofs.Common.{IsEdgeNumber, edge_of, edges_around, touches, holds, holds-take, not_before, same_tests, number_at, enclosing-is, enclosing-has, enclosing-ascending}
+use Rattle.graph_theory.proofs.Common.{IsEdgeNumber, edge_of, edges_around, touches, holds, holds-take, not_before, same_tests, number_at, around-is, around-has, around-ascending}
 use Rattle.std.proofs.Common.{get_or-set_same, get_or-set_other}
 use Rattle.dual_check.specs.Crossed.{total_at, AddsAt, IsWithin}
 
@@ -53,7 +53,7 @@ module _ (xs : List ℕ) (i x q : ℕ) (given : ℕ → ℤ) (old now : List ℤ
 -- ---- the edges at a vertex
 
 pub ascend : (g : Multigraph) (v : ℕ) (xs : List ℕ) → xs ≡ edges_around g v → IsStrictlyIncreasing xs
-ascend g v xs is = subst IsStrictlyIncreasing (sym is) (enclosing-ascending g v)
+ascend g v xs is = subst IsStrictlyIncreasing (sym is) (around-ascending g v)
 
 module _ (g : Multigraph) (v : ℕ) (xs : List ℕ) (given : ℕ → ℤ) (old now : List ℤ) (is : xs ≡ edges_around g v) where
   -- the next edge has a total, which is not too large
@@ -72,5 +72,5 @@ module _ (g : Multigraph) (v : ℕ) (xs : List ℕ) (given : ℕ → ℤ) (old n
     exact = λ e b.
         so.exact e ∙ ap (λ (zs : List ℕ). total_at old e +ℤ cond (holds zs e) (given e) (pos 0)) (take_all i xs past)
         ∙ ap (λ t. total_at old e +ℤ cond t (given e) (pos 0)) (same_tests (holds xs e) (touches (edge_of g e) v)
-        (λ h. (enclosing-is g v e (ap (λ (ys : List ℕ). holds ys e) (sym is) ∙ h)).1) (λ t. ap (λ (ys : List ℕ). holds ys e) is ∙ enclosing-has g v e b t));
+        (λ h. (around-is g v e (ap (λ (ys : List ℕ). holds ys e) (sym is) ∙ h)).1) (λ t. ap (λ (ys : List ℕ). holds ys e) is ∙ around-has g v e b t));
   }

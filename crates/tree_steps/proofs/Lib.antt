@@ -27,6 +27,6 @@ pub mod NewlyOuter
 pub mod Left
 pub mod Handed
 pub mod Among
-pub mod EnlistedCircuit
+pub mod InsertedCircuit
 pub mod EnteredCircuit
 pub mod Bounded

@@ -18,12 +18,12 @@ IsMoving s a = label_at s.arena.motions a ≡ label_at s.labels.items a
 
 -- what has become of the search f once those of these nodes that are in trees are listed, with this
 -- tree id
-pub record AreEnlisted (f k : Search) (ring : List Link) (tree_id : ℕ) : Type 0 where
+pub record AreInserted (f k : Search) (ring : List Link) (tree_id : ℕ) : Type 0 where
   pub frame : k
       ≡ record f { arena = record f.arena { motions = k.arena.motions }; tree_nodes = k.tree_nodes }
   pub sound : IsSound k
   pub listed : AreListed f.graph.vertices k.tree_nodes.nodes k.tree_nodes.tree_ids
-  pub there : (a : ℕ) → in_ring ring a ≡ true → label_at f.labels.items a ≢ Out
+  pub in_tree : (a : ℕ) → in_ring ring a ≡ true → label_at f.labels.items a ≢ Out
       → tree_id_at k.tree_nodes.tree_ids a ≡ Some tree_id
   pub moves : (a : ℕ) → in_ring ring a ≡ true → label_at f.labels.items a ≢ Out → IsMoving k a
   pub keeps_moving : (a : ℕ) → IsMoving f a → IsMoving k a

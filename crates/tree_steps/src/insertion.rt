@@ -4,7 +4,7 @@ ghost use Rattle.blossom_arena.specs.declared.label.Label.TheVariants.{Out};
 ghost use Rattle.alt_forest.specs.State.{IsOutermost};
 ghost use Rattle.alt_forest.specs.Searches.{IsSound, state_of, label_at};
 ghost use Rattle.alt_forest.specs.TreeNodes.{AreListed, tree_id_at};
-ghost use Rattle.tree_steps.specs.Moving.{IsMoving, AreEnlisted};
+ghost use Rattle.tree_steps.specs.Moving.{IsMoving, AreInserted};
 
 use alt_forest::{Label, Search};
 use base_types::VertexId;
@@ -48,7 +48,7 @@ pub(crate) fn insert_circuit(search: &mut Search, tree_id: VertexId)
     requires circuit { (a : ℕ) → in_ring search.old.circuit.items a ≡ true
         → IsOutermost (state_of search.old) a }
     requires vertex { is_vertex search.old.graph.vertices tree_id ≡ true }
-    ensures { AreEnlisted search.old search.new search.old.circuit.items tree_id }
+    ensures { AreInserted search.old search.new search.old.circuit.items tree_id }
 {
     for place in 0..search.circuit.len() {
         let link = search.circuit[place];

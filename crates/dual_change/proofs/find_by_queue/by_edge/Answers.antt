@@ -6,16 +6,16 @@ pub returns-in-Outer-Outer : goal.returns-in-Outer-Outer
 returns-in-Outer-Outer g c =
     let e = c.between.ensures in
     let comes = comes_at _ _ _ _ (to_z-of_z w128 c.args.moment c.ranges.moment) e.comes in
-    record { candidate = e.candidate; comes = comes; stale = λ q. absurd (e.there q); inspections = λ q. e.inspections; step = c.nodes_at-one.ensures.step }
+    record { candidate = e.candidate; comes = comes; stale = λ q. absurd (e.not_stuck q); inspections = λ q. e.inspections; step = c.nodes_at-one.ensures.step }
 
 pub returns-in-Outer-Out : goal.returns-in-Outer-Out
 returns-in-Outer-Out g c =
     let e = c.outward.ensures in
     let comes = comes_at _ _ _ _ (to_z-of_z w128 c.args.moment c.ranges.moment) e.comes in
-    record { candidate = e.candidate; comes = comes; stale = λ q. absurd (e.there q); inspections = λ q. e.inspections; step = c.nodes_at-one.ensures.step }
+    record { candidate = e.candidate; comes = comes; stale = λ q. absurd (e.not_stuck q); inspections = λ q. e.inspections; step = c.nodes_at-one.ensures.step }
 
 pub returns-in-Out-Outer : goal.returns-in-Out-Outer
 returns-in-Out-Outer g c =
     let e = c.outward-in-Out-Outer.ensures in
     let comes = comes_at _ _ _ _ (to_z-of_z w128 c.args.moment c.ranges.moment) e.comes in
-    record { candidate = e.candidate; comes = comes; stale = λ q. absurd (e.there q); inspections = λ q. e.inspections; step = c.nodes_at-one.ensures.step }
+    record { candidate = e.candidate; comes = comes; stale = λ q. absurd (e.not_stuck q); inspections = λ q. e.inspections; step = c.nodes_at-one.ensures.step }

@@ -26,7 +26,7 @@ returns c =
       frame = e.frame;
       sound = record { shape = e.shape; depth = h.depth; state = subst (λ (x : Search). IsSearchState (state_of x) h.depth) (sym e.frame) h.state };
       listed = e.listed;
-      there = λ labelled. ap (λ (f : ℕ → Option ℕ). f c.args.node) e.tree_ids ∙ put_here tree_ids c.args.node (Some c.args.tree_id);
+      in_tree = λ labelled. ap (λ (f : ℕ → Option ℕ). f c.args.node) e.tree_ids ∙ put_here tree_ids c.args.node (Some c.args.tree_id);
       moves = λ labelled. moving c c.args.node (λ ne. absurd (ne refl));
       keeps_moving = λ a was. moving c a (λ ne. was);
       keeps = λ a ne. ap (λ (f : ℕ → Option ℕ). f a) e.tree_ids ∙ put_other tree_ids c.args.node (Some c.args.tree_id) a ne;
