@@ -1,6 +1,7 @@
 -- An answer without its certificate has at most 9 + 2m numbers.
-use Rattle.certificates.proofs.Common.{◌≡◌, ℕ, ◌+◌, ◌*◌, ◌≤◌, pos, ℤ, List, [], ◌∷◌, ◌++◌, length, true, Option, None, Some, IfSome, refl, ap, ◌∙◌, subst, arith, length-append}
+use Rattle.certificates.proofs.Common.{◌≡◌, ℕ, ◌+◌, ◌*◌, ◌≤◌, pos, ℤ, List, [], ◌∷◌, ◌++◌, length, Option, None, Some, IfSome, refl, ap, ◌∙◌, subst, arith, length-append}
 use Rattle.certificates.proofs.Common.{length-map, length-map-range_with_len, tabled-length, Kind, AnswerForm, form_of, Document, WalkLine, count_of, counts_of}
+use Rattle.solve_answers.specs.declared.detail.Detail.TheVariants.{Brief}
 use Rattle.solve_answers.specs.Settled.{Settles}
 use Rattle.array_call.specs.declared.calling.ArrayStatus.{ArrayStatus}
 use Rattle.array_call.specs.Arrays.{Arrays, edge_at, edge_count, network_of}
@@ -32,7 +33,7 @@ laid-size first answer eight =
     let behind : length (answer ++ pos 0 ∷ []) ≡ length answer + 1 = length-append answer (pos 0 ∷ []) in
     omega (arith, front, behind, eight)
 
-pub given-size : (kind : Kind) (a : Arrays) (numbers : List ℤ) (s : ArrayStatus) → Gives true kind a numbers s → length numbers ≤ size_without_proof (edge_count a)
+pub given-size : (kind : Kind) (a : Arrays) (numbers : List ℤ) (s : ArrayStatus) → Gives Brief kind a numbers s → length numbers ≤ size_without_proof (edge_count a)
 given-size kind a numbers status.Done g =
     let answer = answer_numbers (form_of kind) (edge_count a) g.0 in
     let few : length answer ≤ 2 * edge_count a = settled-size kind a g.0 g.2 in

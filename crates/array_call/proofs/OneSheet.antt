@@ -2,7 +2,8 @@
 use Rattle.std.proofs.Common.{◌≡◌, ℕ, ◌≤◌, ◌+◌, ◌⊎◌, ◌<ℤ◌, ℤ, pos, List, [], ◌∷◌, ◌++◌, length, refl, sym, ap, ap₂, ◌∙◌, arith, inl, inr, subst}
 use Rattle.std.proofs.lemmas.Int.{ints}
 use Rattle.std.proofs.lemmas.List.{length-append}
-use Rattle.certificates.proofs.Common.{AnswerForm, Document, Kind, form_of, false, append-nil, length-map, tabled-length}
+use Rattle.certificates.proofs.Common.{AnswerForm, Document, Kind, form_of, append-nil, length-map, tabled-length}
+use Rattle.solve_answers.specs.declared.detail.Detail.TheVariants.{Full}
 use Rattle.array_call.specs.Layout.{numbers_for, lists, offset_at}
 use Rattle.array_call.specs.Documents.{IsSheetOf, IsMadeOf, sheet_for}
 use Rattle.array_call.proofs.ListsBack.{lists-count}
@@ -71,7 +72,7 @@ others-there s numbers head leads r3 r4 p a size whole =
 abbrev joined : Sheet → List ℤ
 joined s = s.head ++ (s.answer ++ (s.duals ++ (s.leads ++ (s.offsets ++ (s.items ++ (s.excluding ++ []))))))
 
-joined-end : (f : AnswerForm) (m : ℕ) (d : Document) → numbers_for false f m d ≡ joined (sheet_for f m d)
+joined-end : (f : AnswerForm) (m : ℕ) (d : Document) → numbers_for Full f m d ≡ joined (sheet_for f m d)
 joined-end f m d =
     let s = sheet_for f m d in
     ap (λ (xs : List ℤ). s.head ++ (s.answer ++ (s.duals ++ (s.leads ++ (s.offsets ++ (s.items ++ xs)))))) (sym (append-nil s.excluding))
@@ -83,7 +84,7 @@ sheet head answer duals leads offsets items members =
 same-parts : (a b c d e f g h i j k l m n : List ℤ) → a ≡ b → c ≡ d → e ≡ f → g ≡ h → i ≡ j → k ≡ l → m ≡ n → sheet a c e g i k m ≡ sheet b d f h j l n
 same-parts a b c d e f g h i j k l m n one two three four five six seven = rw (one, two, three, four, five, six, seven) refl
 
-pub document-parted : (f : AnswerForm) (m : ℕ) (d : Document) → IsParted (numbers_for false f m d) (sheet_for f m d)
+pub document-parted : (f : AnswerForm) (m : ℕ) (d : Document) → IsParted (numbers_for Full f m d) (sheet_for f m d)
 document-parted f m d = record {
   head = refl;
   answer = refl;
@@ -112,15 +113,15 @@ one-sheet numbers s t p q =
     one.0 two.0 three.0 four.0 five.0 six.0 seven.0
 
 -- documents whose parts are the same have the same numbers
-pub same-numbers : (f : AnswerForm) (m : ℕ) (d b : Document) → sheet_for f m d ≡ sheet_for f m b → numbers_for false f m d ≡ numbers_for false f m b
+pub same-numbers : (f : AnswerForm) (m : ℕ) (d b : Document) → sheet_for f m d ≡ sheet_for f m b → numbers_for Full f m d ≡ numbers_for Full f m b
 same-numbers f m d b same = joined-end f m d ∙ ap joined same ∙ sym (joined-end f m b)
 
 -- numbers that have no parts have no document
-pub unparted : (f : AnswerForm) (m : ℕ) (numbers : List ℤ) (d : Document) → ((s : Sheet) → IsParted numbers s → ⊥) → numbers ≡ numbers_for false f m d → ⊥
+pub unparted : (f : AnswerForm) (m : ℕ) (numbers : List ℤ) (d : Document) → ((s : Sheet) → IsParted numbers s → ⊥) → numbers ≡ numbers_for Full f m d → ⊥
 unparted f m numbers d none is = none (sheet_for f m d) (subst (λ (ns : List ℤ). IsParted ns (sheet_for f m d)) (sym is) (document-parted f m d))
 
 -- and the parts of numbers are those of each document that has them
-pub sheet-of-document : (kind : Kind) (m : ℕ) (numbers : List ℤ) (s : Sheet) (d : Document) → IsParted numbers s → d.kind ≡ kind → numbers ≡ numbers_for false (form_of kind) m d
+pub sheet-of-document : (kind : Kind) (m : ℕ) (numbers : List ℤ) (s : Sheet) (d : Document) → IsParted numbers s → d.kind ≡ kind → numbers ≡ numbers_for Full (form_of kind) m d
     → IsSheetOf kind m s d
 sheet-of-document kind m numbers s d parted same is = record {
   same_kind = same;
@@ -129,9 +130,9 @@ sheet-of-document kind m numbers s d parted same is = record {
 }
 
 -- so each document that has them has the numbers of the one that is made of these parts
-pub made-of-all : (kind : Kind) (m : ℕ) (numbers : List ℤ) (s : Sheet) (d b : Document) → IsParted numbers s → d.kind ≡ kind → numbers ≡ numbers_for false (form_of kind) m d
+pub made-of-all : (kind : Kind) (m : ℕ) (numbers : List ℤ) (s : Sheet) (d b : Document) → IsParted numbers s → d.kind ≡ kind → numbers ≡ numbers_for Full (form_of kind) m d
     → IsMadeOf kind m s b
-    → numbers ≡ numbers_for false (form_of kind) m b
+    → numbers ≡ numbers_for Full (form_of kind) m b
 made-of-all kind m numbers s d b parted same is made =
     let sheet = sheet-of-document kind m numbers s d parted same is in
     is ∙ same-numbers (form_of kind) m d b (sym sheet.same_sheet ∙ made d sheet)

@@ -7,6 +7,8 @@ use Rattle.mb_problem.specs.Kinds.{form_of, searches_of}
 use Rattle.mb_problem.specs.Size.{size_of}
 use Rattle.doc_format.specs.declared.document.Document.{Document}
 use Rattle.mwpm_engine.specs.Solutions.{most_steps}
+use Rattle.solve_answers.specs.declared.detail.Detail.{Detail}
+use Rattle.solve_answers.specs.declared.detail.Detail.TheVariants.{Full}
 use Rattle.solve_answers.specs.Settled.{Settles, SettlesFor}
 use Rattle.array_call.specs.declared.error.ArrayError.{ArrayError}
 use Rattle.array_call.specs.declared.error.ArrayError.TheVariants.{Malformed, TooLarge, OutOfMemory}
@@ -38,16 +40,16 @@ pub record IsTooLarge (kind : Kind) (a : Arrays) (size : Size) : Type 0 where
 -- The document of a best answer, or of what excludes all answers, that proves what it states of the
 -- instance that the arrays are, in brief one with its answer; or why there is none: their first
 -- fault, or a graph past a limit.
-abbrev pub SolvesFor : Bool → Kind → Arrays → Result Document ArrayError → Type 0
-SolvesFor brief kind a (Ok d) = IsAnswerable kind a × SettlesFor brief kind (network_of kind a) d
-SolvesFor brief kind a (Err (Malformed f)) = array_fault kind a ≡ Some f
-SolvesFor brief kind a (Err (TooLarge vertices edges)) =
+abbrev pub SolvesFor : Detail → Kind → Arrays → Result Document ArrayError → Type 0
+SolvesFor detail kind a (Ok d) = IsAnswerable kind a × SettlesFor detail kind (network_of kind a) d
+SolvesFor detail kind a (Err (Malformed f)) = array_fault kind a ≡ Some f
+SolvesFor detail kind a (Err (TooLarge vertices edges)) =
     IsTooLarge kind a (record { vertices = vertices; edges = edges })
-SolvesFor brief kind a (Err OutOfMemory) = Unit {0}
+SolvesFor detail kind a (Err OutOfMemory) = Unit {0}
 
 -- the same in full: the document settles the instance itself
 abbrev pub Solves : Kind → Arrays → Result Document ArrayError → Type 0
-Solves kind a result = SolvesFor false kind a result
+Solves kind a result = SolvesFor Full kind a result
 
 -- no more than the searches on the certificate graph take
 abbrev pub CountsSearches : Kind → Arrays → ℕ → ℕ → Type 0
@@ -75,16 +77,16 @@ size_numbers size = counted size.vertices ∷ counted size.edges ∷ []
 
 -- The numbers and the status: those of the document, the first fault, or the size that is past a
 -- limit; none if there isn't enough memory.
-abbrev pub Gives : Bool → Kind → Arrays → List ℤ → ArrayStatus → Type 0
-Gives brief kind a numbers status.Done =
+abbrev pub Gives : Detail → Kind → Arrays → List ℤ → ArrayStatus → Type 0
+Gives detail kind a numbers status.Done =
     (d : Document) × IsAnswerable kind a × Settles kind (network_of kind a) d
-    × (numbers ≡ numbers_for brief (form_of kind) (edge_count a) d)
-Gives brief kind a numbers status.Rejected = ⊥
-Gives brief kind a numbers status.Malformed =
+    × (numbers ≡ numbers_for detail (form_of kind) (edge_count a) d)
+Gives detail kind a numbers status.Rejected = ⊥
+Gives detail kind a numbers status.Malformed =
     (f : ArrayFault) × (array_fault kind a ≡ Some f) × (numbers ≡ fault_numbers f)
-Gives brief kind a numbers status.TooLarge =
+Gives detail kind a numbers status.TooLarge =
     (size : Size) × IsTooLarge kind a size × (numbers ≡ size_numbers size)
-Gives brief kind a numbers status.OutOfMemory = numbers ≡ []
+Gives detail kind a numbers status.OutOfMemory = numbers ≡ []
 
 -- no duals, no sets and no members stand behind the answer, but for the one offset of no set
 pub record HasNoCertificate (numbers : List ℤ) : Type 0 where

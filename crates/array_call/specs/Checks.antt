@@ -1,11 +1,12 @@
 -- What judging an answer in numbers answers.
-use Rattle.std.specs.Prelude.{◌≡◌, ◌⊎◌, ℕ, false, ℤ, pos, List, [], ◌∷◌, Option, None, Some, Result}
+use Rattle.std.specs.Prelude.{◌≡◌, ◌⊎◌, ℕ, ℤ, pos, List, [], ◌∷◌, Option, None, Some, Result}
 use Rattle.std.specs.Prelude.{Ok, Err}
 use Rattle.graph_theory.specs.Limits.{Size}
 use Rattle.mb_problem.specs.declared.kind.Kind.{Kind}
 use Rattle.mb_problem.specs.Kinds.{form_of}
 use Rattle.doc_format.specs.declared.document.Document.{Document}
 use Rattle.certificates.specs.Proved.{IsProved, StatesTruth}
+use Rattle.solve_answers.specs.declared.detail.Detail.TheVariants.{Full}
 use Rattle.cert_check.specs.declared.rule.DocRule.{DocRule}
 use Rattle.cert_check.specs.declared.rule.DocRule.TheVariants.{DocForm}
 use Rattle.cert_check.specs.declared.rule.Verdict.TheVariants.{Rejected}
@@ -23,7 +24,7 @@ use Rattle.array_call.specs.Answers.{IsAnswerable, IsTooLarge, fault_numbers, si
 
 -- the numbers are those of the document, in full
 abbrev pub IsOfNumbers : Kind → Arrays → List ℤ → Document → Type 0
-IsOfNumbers kind a numbers d = numbers ≡ numbers_for false (form_of kind) (edge_count a) d
+IsOfNumbers kind a numbers d = numbers ≡ numbers_for Full (form_of kind) (edge_count a) d
 
 -- the numbers are those of a document that proves what it states of the instance that the arrays
 -- are, which is true of it

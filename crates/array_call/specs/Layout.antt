@@ -16,6 +16,8 @@ use Rattle.doc_format.specs.Items.{item_number}
 use Rattle.doc_format.specs.declared.part.WalkLine.{WalkLine}
 use Rattle.doc_format.specs.declared.part.MemberLine.{MemberLine}
 use Rattle.certificates.specs.Claims.{counts_of}
+use Rattle.solve_answers.specs.declared.detail.Detail.{Detail}
+use Rattle.solve_answers.specs.Details.{is_brief}
 
 -- ---- the parts
 
@@ -103,6 +105,7 @@ unless false xs = xs
 
 -- the numbers of a document, in brief without what proves the answer, for an answer of this form on
 -- m edges
-abbrev pub numbers_for : Bool → AnswerForm → ℕ → Document → List ℤ
-numbers_for brief f m d = numbers_by d (answer_numbers f m d) (unless brief d.duals)
-    (unless brief d.sets) (unless brief d.paths) (unless brief (excluding d))
+abbrev pub numbers_for : Detail → AnswerForm → ℕ → Document → List ℤ
+numbers_for detail f m d = numbers_by d (answer_numbers f m d) (unless (is_brief detail) d.duals)
+    (unless (is_brief detail) d.sets) (unless (is_brief detail) d.paths)
+    (unless (is_brief detail) (excluding d))

@@ -1,4 +1,5 @@
 ghost use Rattle.std.specs.Prelude.{◌≡◌, ◌≤◌, [], ◌∷◌, length, pos, true, IfOk};
+ghost use Rattle.solve_answers.specs.Details.{is_brief};
 ghost use Rattle.solve_answers.specs.Settled.{SettlesFor};
 ghost use Rattle.array_call.specs.Arrays.{arrays_of, edge_count, network_of};
 ghost use Rattle.array_call.specs.Answers.{IsAnswerable, counted, fault_numbers, size_numbers};
@@ -18,6 +19,7 @@ use cert_check::DocRule;
 use doc_format::Document;
 use mb_base::{OutOfMemory, Steps};
 use mb_problem::{Kind, gadget_size};
+use solve_answers::Detail;
 use std::alloc::{AllocError, Global};
 use std::sync::ledger::Ledger;
 
@@ -89,16 +91,16 @@ fn sized(
 /// The answer that is a document, in full or in brief.
 fn solved(
     alloc: Global,
-    brief: bool,
+    detail: Detail,
     kind: Kind,
     arrays: &InstanceArrays<'_>,
     document: &Document,
 ) -> Result<ArrayAnswer, OutOfMemory>
     requires answerable { IsAnswerable kind (arrays_of arrays.now) }
-    requires settles { SettlesFor brief kind (network_of kind (arrays_of arrays.now)) document.now }
-    ensures { IfOk result (λ a. Gives brief kind (arrays_of arrays.now) a.numbers.items a.status) }
+    requires settles { SettlesFor detail kind (network_of kind (arrays_of arrays.now)) document.now }
+    ensures { IfOk result (λ a. Gives detail kind (arrays_of arrays.now) a.numbers.items a.status) }
 {
-    let numbers = numbers_of(alloc, kind, arrays.from.len(), brief, document)?;
+    let numbers = numbers_of(alloc, kind, arrays.from.len(), detail, document)?;
     let status = ArrayStatus::Done;
     Ok(ArrayAnswer { numbers, status })
 }
@@ -106,18 +108,18 @@ fn solved(
 /// What is answered to arrays, unless memory runs out.
 fn answer<L: Ledger>(
     alloc: Global,
-    brief: bool,
+    detail: Detail,
     kind: Kind,
     arrays: &InstanceArrays<'_>,
     steps: &mut Steps<L>,
 ) -> Result<ArrayAnswer, OutOfMemory>
-    ensures answer { IfOk result (λ a. Gives brief kind (arrays_of arrays.now) a.numbers.items
+    ensures answer { IfOk result (λ a. Gives detail kind (arrays_of arrays.now) a.numbers.items
         a.status) }
     ensures steps { CountsEnded kind (arrays_of arrays.now) steps.old steps.new result }
 {
-    match solve_for(alloc, kind, brief, arrays, steps) {
+    match solve_for(alloc, kind, detail, arrays, steps) {
         Ok(document) => {
-            let answer = solved(alloc, brief, kind, arrays, &document);
+            let answer = solved(alloc, detail, kind, arrays, &document);
             drop(document);
             answer
         }
@@ -134,26 +136,26 @@ fn answer<L: Ledger>(
 /// graph past a limit. If there isn't enough memory the status is that, and there are no numbers.
 pub fn answer_to<L: Ledger>(
     alloc: Global,
-    brief: bool,
+    detail: Detail,
     kind: Kind,
     arrays: &InstanceArrays<'_>,
     steps: &mut Steps<L>,
 ) -> ArrayAnswer
     // Such a document as numbers; a fault as the numbers of its rule and its index; a size as two
     // numbers.
-    ensures answer { Gives brief kind (arrays_of arrays.now) result.numbers.items result.status }
+    ensures answer { Gives detail kind (arrays_of arrays.now) result.numbers.items result.status }
 
     // Without certificate there are no duals, no sets and no members of an obstruction.
-    ensures brief { IsBriefFor brief result.numbers.items result.status }
+    ensures brief { IsBriefFor (is_brief detail) result.numbers.items result.status }
 
     // Without certificate there are at most 9 + 2m numbers for m edges, however the call ends.
-    ensures room { brief ≡ true → length result.numbers.items
+    ensures room { is_brief detail ≡ true → length result.numbers.items
         ≤ size_without_proof (edge_count (arrays_of arrays.now)) }
 
     // Steps within the same bounds.
     ensures steps { CountsCall kind (arrays_of arrays.now) steps.old steps.new result.status }
 {
-    match answer(alloc, brief, kind, arrays, steps) {
+    match answer(alloc, detail, kind, arrays, steps) {
         Ok(answer) => answer,
         Err(_) => ArrayAnswer {
             numbers: Vec::new(alloc),

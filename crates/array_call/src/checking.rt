@@ -3,6 +3,7 @@ ghost use Rattle.graph_theory.specs.Limits.{IsWithinLimits};
 ghost use Rattle.mb_problem.specs.Kinds.{form_of};
 ghost use Rattle.mb_problem.specs.Ready.{IsReady};
 ghost use Rattle.mb_problem.specs.Size.{size_of};
+ghost use Rattle.solve_answers.specs.declared.detail.Detail.TheVariants.{Full};
 ghost use Rattle.array_call.specs.Arrays.{arrays_of, network_of};
 ghost use Rattle.array_call.specs.Layout.{numbers_for};
 ghost use Rattle.array_call.specs.Made.{IsFaultless};
@@ -21,6 +22,7 @@ use certificates::is_within_limits;
 use doc_format::Document;
 use mb_base::OutOfMemory;
 use mb_problem::{Instance, Kind, gadget_size};
+use solve_answers::Detail;
 use std::alloc::Global;
 
 /// Whether two lists of numbers of the same length are the same.
@@ -47,11 +49,11 @@ fn is_laid(
 ) -> Result<bool, OutOfMemory>
     requires { All (IsCountOn m) document.now.counts }
     ensures yes { IfOk result (λ b. b ≡ true
-        → numbers.now ≡ numbers_for false (form_of kind) m document.now) }
+        → numbers.now ≡ numbers_for Full (form_of kind) m document.now) }
     ensures no { IfOk result (λ b. b ≡ false
-        → numbers.now ≡ numbers_for false (form_of kind) m document.now → ⊥) }
+        → numbers.now ≡ numbers_for Full (form_of kind) m document.now → ⊥) }
 {
-    let own = numbers_of(alloc, kind, m, false, document)?;
+    let own = numbers_of(alloc, kind, m, Detail::Full, document)?;
     if own.len() != numbers.len() {
         return Ok(false);
     }
@@ -66,10 +68,10 @@ fn document_in(
     numbers: &[i64],
 ) -> Result<Option<Document>, OutOfMemory>
     ensures own { IfOk result (λ o. IfSome o
-        (λ d. numbers.now ≡ numbers_for false (form_of kind) m d)) }
+        (λ d. numbers.now ≡ numbers_for Full (form_of kind) m d)) }
     ensures kind { IfOk result (λ o. IfSome o (λ d. d.kind ≡ kind)) }
     ensures none { IfOk result (λ o. o ≡ None → (d : Document) → d.kind ≡ kind
-        → numbers.now ≡ numbers_for false (form_of kind) m d → ⊥) }
+        → numbers.now ≡ numbers_for Full (form_of kind) m d → ⊥) }
 {
     let Some(parts) = parted(numbers) else {
         return Ok(None);

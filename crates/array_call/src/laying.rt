@@ -14,6 +14,7 @@ use crate::counts::counts_of;
 use doc_format::{DocStatus, Document, DualLine, MemberLine, PathLine, SetItem, SetLine, WalkLine};
 use mb_base::OutOfMemory;
 use mb_problem::{AnswerForm, Kind};
+use solve_answers::Detail;
 use std::alloc::Global;
 
 fn status_number(status: DocStatus) -> i64
@@ -294,16 +295,16 @@ pub fn numbers_of(
     alloc: Global,
     kind: Kind,
     m: usize,
-    brief: bool,
+    detail: Detail,
     document: &Document,
 ) -> Result<Vec<i64>, OutOfMemory>
     requires { All (IsCountOn m) document.now.counts }
 
     // The numbers of a document.
-    ensures { IfOk result (λ v. v.items ≡ numbers_for brief (form_of kind) m document.now) }
+    ensures { IfOk result (λ v. v.items ≡ numbers_for detail (form_of kind) m document.now) }
 {
     let answer = answer_numbers(alloc, kind.form(), m, document)?;
-    if brief {
+    if detail.is_brief() {
         let none = Proof {
             duals: &[],
             sets: &[],

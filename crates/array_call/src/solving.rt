@@ -13,6 +13,7 @@ use doc_format::Document;
 use kind_solver::{SolveError, solve_sized};
 use mb_base::Steps;
 use mb_problem::{Instance, Kind};
+use solve_answers::Detail;
 use std::alloc::Global;
 use std::sync::ledger::Ledger;
 
@@ -20,7 +21,7 @@ use std::sync::ledger::Ledger;
 fn solve_instance<L: Ledger>(
     alloc: Global,
     kind: Kind,
-    brief: bool,
+    detail: Detail,
     arrays: &InstanceArrays<'_>,
     instance: &Instance,
     steps: &mut Steps<L>,
@@ -28,10 +29,10 @@ fn solve_instance<L: Ledger>(
     requires same { instance.now ≡ network_of kind (arrays_of arrays.now) }
     requires faultless { IsFaultless kind (arrays_of arrays.now) }
     requires well_formed { IsReady kind instance.now }
-    ensures answer { SolvesFor brief kind (arrays_of arrays.now) result }
+    ensures answer { SolvesFor detail kind (arrays_of arrays.now) result }
     ensures steps { Counts kind (arrays_of arrays.now) steps.old steps.new result }
 {
-    match solve_sized(alloc, instance, kind, brief, steps) {
+    match solve_sized(alloc, instance, kind, detail, steps) {
         Ok(document) => Ok(document),
         Err(SolveError::TooLarge { vertices, edges }) => {
             Err(ArrayError::TooLarge { vertices, edges })
@@ -45,15 +46,15 @@ fn solve_instance<L: Ledger>(
 pub(crate) fn solve_for<L: Ledger>(
     alloc: Global,
     kind: Kind,
-    brief: bool,
+    detail: Detail,
     arrays: &InstanceArrays<'_>,
     steps: &mut Steps<L>,
 ) -> Result<Document, ArrayError>
-    ensures answer { SolvesFor brief kind (arrays_of arrays.now) result }
+    ensures answer { SolvesFor detail kind (arrays_of arrays.now) result }
     ensures steps { Counts kind (arrays_of arrays.now) steps.old steps.new result }
 {
     let instance = instance_of(alloc, kind, arrays)?;
-    let answer = solve_instance(alloc, kind, brief, arrays, &instance, steps);
+    let answer = solve_instance(alloc, kind, detail, arrays, &instance, steps);
     drop(instance);
     answer
 }
@@ -83,5 +84,5 @@ pub fn solve_arrays<L: Ledger>(
     // Steps within the same bounds; a refusal counts none.
     ensures steps { Counts kind (arrays_of arrays.now) steps.old steps.new result }
 {
-    solve_for(alloc, kind, false, arrays, steps)
+    solve_for(alloc, kind, Detail::Full, arrays, steps)
 }

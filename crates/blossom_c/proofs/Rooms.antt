@@ -1,5 +1,6 @@
 -- Without certificate a buffer of 9 + 2m numbers isn't too small for an answer.
-use Rattle.mb_problem.proofs.Common.{◌≡◌, ◌≢◌, ℕ, ◌≤◌, ◌<◌, ℤ, List, length, true, false, sym, ◌∙◌, arith}
+use Rattle.mb_problem.proofs.Common.{◌≡◌, ◌≢◌, ℕ, ◌≤◌, ◌<◌, ℤ, List, length, sym, ◌∙◌, arith}
+use Rattle.solve_answers.specs.declared.detail.Detail.TheVariants.{Full, Brief}
 use Rattle.array_call.specs.declared.calling.ArrayStatus.{ArrayStatus}
 use Rattle.array_call.specs.declared.calling.ArrayStatus.TheVariants.{Done, Rejected, Malformed, TooLarge, OutOfMemory}
 use Rattle.array_call.specs.Arrays.{Arrays, edge_count}
@@ -17,15 +18,15 @@ answered-other TooLarge same = absurd cc
 answered-other OutOfMemory same = absurd cc
 
 -- an answer that is too long has more numbers
-never-short : (task kind : ℕ) (a : Arrays) (before after : List ℤ) (used : ℕ) → EndsSolving task kind a before after used ShortBuffer → task ≡ number_of_solving true →
+never-short : (task kind : ℕ) (a : Arrays) (before after : List ℤ) (used : ℕ) → EndsSolving task kind a before after used ShortBuffer → task ≡ number_of_solving Brief →
     size_without_proof (edge_count a) ≤ length before → ⊥
-never-short task kind a before after used (false, _, solving, _, _) brief room = absurd (let same : number_of_solving false ≡ number_of_solving true = solving ∙ brief in cc)
-never-short task kind a before after used (true, k, _, _, (numbers, s, gives, _, long)) brief room =
+never-short task kind a before after used (Full, _, solving, _, _) brief room = absurd (let same : number_of_solving Full ≡ number_of_solving Brief = solving ∙ brief in cc)
+never-short task kind a before after used (Brief, k, _, _, (numbers, s, gives, _, long)) brief room =
     let size : length numbers ≤ size_without_proof (edge_count a) = given-size k a numbers s gives in
     let longer : length before < length numbers = long.longer in
     omega (arith, size, longer, room)
 
-pub has-room : (task kind : ℕ) (a : Arrays) (before after : List ℤ) (used number : ℕ) → TellsSolving task kind a before after used number → task ≡ number_of_solving true →
+pub has-room : (task kind : ℕ) (a : Arrays) (before after : List ℤ) (used number : ℕ) → TellsSolving task kind a before after used number → task ≡ number_of_solving Brief →
     size_without_proof (edge_count a) ≤ length before → number ≢ number_of_array_ending ShortBuffer
 has-room task kind a before after used number (Answered s, told, _) brief room = λ short. answered-other s (sym told ∙ short)
 has-room task kind a before after used number (ShortBuffer, _, ends) brief room = λ short. never-short task kind a before after used ends brief room

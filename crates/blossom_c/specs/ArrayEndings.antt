@@ -1,7 +1,9 @@
 -- What a call over arrays leaves, by how it ended.
-use Rattle.std.specs.Prelude.{◌≡◌, ℕ, ◌⊎◌, ℤ, List, length, Bool, true, false}
+use Rattle.std.specs.Prelude.{◌≡◌, ℕ, ◌⊎◌, ℤ, List, length}
 use Rattle.mb_problem.specs.declared.kind.Kind.{Kind}
 use Rattle.mb_problem.specs.Kinds.{kind_number}
+use Rattle.solve_answers.specs.declared.detail.Detail.{Detail}
+use Rattle.solve_answers.specs.declared.detail.Detail.TheVariants.{Full, Brief}
 use Rattle.array_call.specs.declared.calling.ArrayStatus.{ArrayStatus}
 use Rattle.array_call.specs.declared.calling.ArrayStatus.TheVariants.{Done, Rejected, Malformed}
 use Rattle.array_call.specs.declared.calling.ArrayStatus.TheVariants.{TooLarge, OutOfMemory}
@@ -15,9 +17,9 @@ use Rattle.blossom_c.specs.Numbers.{IsUnnumbered}
 use Rattle.blossom_c.specs.Buffers.{StandsIn, IsTooLong}
 
 -- the numbers of the two ways to solve: in full and in brief, as those of tasks
-abbrev pub number_of_solving : Bool → ℕ
-number_of_solving false = 1
-number_of_solving true = 2
+abbrev pub number_of_solving : Detail → ℕ
+number_of_solving Full = 1
+number_of_solving Brief = 2
 
 -- the same numbers as those of endings of a call over texts
 abbrev pub number_of_status : ArrayStatus → ℕ
@@ -55,8 +57,8 @@ abbrev pub EndsSolving : ℕ → ℕ → Arrays → List ℤ → List ℤ → �
 EndsSolving task kind a before after used NoSuchCall = (IsUnnumbered number_of_solving task
     ⊎ IsUnnumbered kind_number kind) × (used ≡ 0) × (after ≡ before)
 EndsSolving task kind a before after used ending =
-    (brief : Bool) × (k : Kind) × (number_of_solving brief ≡ task) × (kind_number k ≡ kind)
-    × Ends (Gives brief k a) before after used ending
+    (detail : Detail) × (k : Kind) × (number_of_solving detail ≡ task) × (kind_number k ≡ kind)
+    × Ends (Gives detail k a) before after used ending
 
 abbrev pub EndsSizing : ℕ → Arrays → List ℤ → List ℤ → ℕ → ArrayEnding → Type 0
 EndsSizing kind a before after used NoSuchCall = IsUnnumbered kind_number kind × (used ≡ 0)

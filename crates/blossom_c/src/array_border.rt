@@ -1,5 +1,6 @@
 //! The calls over arrays.
-ghost use Rattle.std.specs.Prelude.{◌≡◌, ◌≢◌, ◌<◌, ◌≤◌, length, true};
+ghost use Rattle.std.specs.Prelude.{◌≡◌, ◌≢◌, ◌<◌, ◌≤◌, length};
+ghost use Rattle.solve_answers.specs.declared.detail.Detail.TheVariants.{Brief};
 ghost use Rattle.array_call.specs.Arrays.{arrays_of};
 ghost use Rattle.array_call.specs.Answers.{Gives, GivesSize, size_without_proof};
 ghost use Rattle.array_call.specs.Checks.{GivesVerdict};
@@ -15,6 +16,7 @@ use crate::call_numbers::{kind_numbered, solving_numbered};
 use array_call::{ArrayAnswer, InstanceArrays, answer_to, check_to, size_to};
 use mb_base::Steps;
 use mb_problem::Kind;
+use solve_answers::Detail;
 use std::alloc::Global;
 use std::marker::Brand;
 use std::sync::ledger::{Blank, Ledger};
@@ -36,7 +38,7 @@ pub(crate) fn hand_over(answer: &ArrayAnswer, output: &mut [i64], used: &mut usi
 fn solve<L: Ledger>(
     blank: Blank,
     alloc: Global,
-    brief: bool,
+    detail: Detail,
     kind: Kind,
     arrays: &InstanceArrays<'_>,
     output: &mut [i64],
@@ -45,11 +47,11 @@ fn solve<L: Ledger>(
     requires name { blank.name ≡ L.name }
     requires parts { blank.parts ≡ L.parts }
     requires some { 0 < blank.parts }
-    ensures { Ends (Gives brief kind (arrays_of arrays.now)) output.old output.new used.new
+    ensures { Ends (Gives detail kind (arrays_of arrays.now)) output.old output.new used.new
         result }
 {
     let mut steps = Steps::<L>::new(blank);
-    let answer = answer_to(alloc, brief, kind, arrays, &mut steps);
+    let answer = answer_to(alloc, detail, kind, arrays, &mut steps);
     hand_over(&answer, output, used)
 }
 
@@ -64,7 +66,7 @@ fn solve_numbered(
 ) -> ArrayEnding
     ensures { EndsSolving task kind (arrays_of arrays.now) output.old output.new used.new result }
 {
-    let Some(brief) = solving_numbered(task) else {
+    let Some(detail) = solving_numbered(task) else {
         *used = 0;
         return ArrayEnding::NoSuchCall;
     };
@@ -72,7 +74,7 @@ fn solve_numbered(
         *used = 0;
         return ArrayEnding::NoSuchCall;
     };
-    solve::<Brand>(Blank::new(1), alloc, brief, kind, arrays, output, used)
+    solve::<Brand>(Blank::new(1), alloc, detail, kind, arrays, output, used)
 }
 
 /// The size of the certificate graph of arrays.
@@ -171,7 +173,7 @@ pub extern "C" fn blossom_solve_arrays(
     }) output.old output.new used.new result }
 
     // Without certificate a buffer of 9 + 2m numbers is never too small for m edges.
-    ensures room { task ≡ number_of_solving true
+    ensures room { task ≡ number_of_solving Brief
         → size_without_proof (length from.now) ≤ length output.old
         → result ≢ number_of_array_ending ShortBuffer }
 {

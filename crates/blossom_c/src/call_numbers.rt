@@ -4,6 +4,7 @@ ghost use Rattle.blossom_c.specs.Numbers.{number_of_task, IsNumbered};
 
 use match_cli::Task;
 use mb_problem::Kind;
+use solve_answers::Detail;
 
 /// The task of this number, where one has it.
 pub fn task_numbered(number: u32) -> Option<Task>
@@ -24,13 +25,13 @@ pub fn kind_numbered(number: u32) -> Option<Kind>
     Kind::numbered(number)
 }
 
-/// Whether the task of this number solves in brief, if it is one that solves.
-pub fn solving_numbered(number: u32) -> Option<bool>
+/// How much of an answer the task of this number states, if it is one that solves.
+pub fn solving_numbered(number: u32) -> Option<Detail>
     ensures { IsNumbered number_of_solving number result }
 {
     match number {
-        1 => Some(false),
-        2 => Some(true),
+        1 => Some(Detail::Full),
+        2 => Some(Detail::Brief),
         _ => None,
     }
 }

@@ -9,6 +9,8 @@ use Rattle.clap.specs.declared.parser.matches.ArgMatches.{ArgMatches}
 use Rattle.clap.specs.declared.parser.matches.ArgMatches.TheViews.{out-ArgMatches, out-SubCommand}
 use Rattle.clap.specs.declared.parser.matches.SubCommand.{SubCommand}
 use Rattle.mb_problem.specs.declared.limits.TheConstants.{VERTEX_LIMIT, EDGE_LIMIT}
+use Rattle.solve_answers.specs.declared.detail.Detail.{Detail}
+use Rattle.solve_answers.specs.declared.detail.Detail.TheVariants.{Full, Brief}
 use Rattle.command_words.specs.declared.command.Command.{Command}
 use Rattle.command_words.specs.Commands.{check_named, command_of, solve_named, trial, trial_by, natural_within}
 use Rattle.command_words.specs.Form.{has_form, is_operand}
@@ -29,8 +31,8 @@ no_natural : (limit : ℕ) (w : Text) → is_operand w ≡ false → natural_wit
 no_natural limit [] h = absurd (false≢true (sym h))
 no_natural limit (x ∷ xs) h = let e = eqb-true x 45 (not-false (nat_eq x 45) h) in subst (λ (y : ℕ). natural_within limit (y ∷ xs) ≡ None) (sym e) refl
 
-no_solve : (brief : Bool) (w : Text) → is_operand w ≡ false → solve_named brief w ≡ None
-no_solve brief w h = rw (no_kind w h) refl
+no_solve : (detail : Detail) (w : Text) → is_operand w ≡ false → solve_named detail w ≡ None
+no_solve detail w h = rw (no_kind w h) refl
 
 no_check : (w : Text) → is_operand w ≡ false → check_named w ≡ None
 no_check w h = rw (no_kind w h) refl
@@ -72,7 +74,7 @@ three_gives first a b d h =
       | inr e ↦
           let Q : Text → Type 0 = λ t. Gives (first ∷ codes "solve" ∷ t ∷ d ∷ []) (command_of (first ∷ codes "solve" ∷ t ∷ d ∷ [])) in
           let p = (and_parts (bytes_eq b (codes "--brief")) (is_operand d) e).1 in
-          let R : Bool → Type 0 = λ t. Gives (first ∷ codes "solve" ∷ codes "--brief" ∷ d ∷ []) (cond t (solve_named true (codes "--brief")) (solve_named true d)) in
+          let R : Bool → Type 0 = λ t. Gives (first ∷ codes "solve" ∷ codes "--brief" ∷ d ∷ []) (cond t (solve_named Brief (codes "--brief")) (solve_named Brief d)) in
           subst Q (sym (same b (codes "--brief") (and_parts (bytes_eq b (codes "--brief")) _ e).0)) (subst R (sym (not_brief d p)) (brief_first_gives first d (plain d p)))
     ])
 
@@ -150,9 +152,9 @@ pub formless : (ws : List Text) → has_form ws ≡ false → command_of ws ≡ 
 formless [] h = refl
 formless (first ∷ []) h = refl
 formless (first ∷ a ∷ []) h = refl
-formless (first ∷ a ∷ k ∷ []) h = two_none (bytes_eq a (codes "solve")) (bytes_eq a (codes "check")) (is_operand k) (solve_named false k) (check_named k) (no_solve false k) (no_check k) h
-formless (first ∷ a ∷ b ∷ d ∷ []) h = three_none (bytes_eq a (codes "solve")) (is_operand b) (bytes_eq d (codes "--brief")) (bytes_eq b (codes "--brief")) (is_operand d) (solve_named true b)
-    (solve_named true d) (no_solve true b) (no_solve true d) h
+formless (first ∷ a ∷ k ∷ []) h = two_none (bytes_eq a (codes "solve")) (bytes_eq a (codes "check")) (is_operand k) (solve_named Full k) (check_named k) (no_solve Full k) (no_check k) h
+formless (first ∷ a ∷ b ∷ d ∷ []) h = three_none (bytes_eq a (codes "solve")) (is_operand b) (bytes_eq d (codes "--brief")) (bytes_eq b (codes "--brief")) (is_operand d) (solve_named Brief b)
+    (solve_named Brief d) (no_solve Brief b) (no_solve Brief d) h
 formless (first ∷ a ∷ b ∷ d ∷ e ∷ []) h = refl
 formless (first ∷ a ∷ k ∷ s ∷ n ∷ m ∷ []) h = five_none (bytes_eq a (codes "trial")) k s n m h
 formless (first ∷ a ∷ b ∷ d ∷ e ∷ f ∷ g ∷ more) h = refl

@@ -4,6 +4,7 @@ use Rattle.clap.specs.Words.{Row, Rule, Text}
 use Rattle.clap.specs.Walk.{Held, Walk, finished, nothing_held, walk, walk_from, walked}
 use Rattle.clap.specs.Takes.{level_passes}
 use Rattle.clap.proofs.OnLiterals.{clap_on_literals}
+use Rattle.solve_answers.specs.declared.detail.Detail.TheVariants.{Full, Brief}
 use Rattle.command_words.specs.declared.command.Command.{Command}
 use Rattle.command_words.specs.Commands.{check_named, solve_named, trial_by}
 use Rattle.command_words.specs.Program.{program, is_taken, found_in, command_in}
@@ -31,7 +32,7 @@ unfolding clap_on_literals program
 solve_level k w = level_by (shape_named (codes "solve")) (k ∷ []) (solve_end k) (walked-plain (shape_named (codes "solve")).rules 1 nothing_held k w)
     (pass (shape_named (codes "solve")) 1 nothing_held k [] w refl refl) refl
 
-pub solve_gives : (first k : Text) → IsPlainWord k → Gives (first ∷ codes "solve" ∷ k ∷ []) (solve_named false k)
+pub solve_gives : (first k : Text) → IsPlainWord k → Gives (first ∷ codes "solve" ∷ k ∷ []) (solve_named Full k)
 unfolding clap_on_literals program
 solve_gives first k w = record {
   taken = takes_by first _ (codes "solve") (k ∷ []) (solve_meets k) (solve_level k w);
@@ -58,7 +59,7 @@ unfolding clap_on_literals program
 brief_last_level k w = level_by (shape_named (codes "solve")) (k ∷ codes "--brief" ∷ []) (brief_last_end k) (brief_last_ends k w) (pass (shape_named (codes "solve")) 1 nothing_held k
     (codes "--brief" ∷ []) w refl refl) refl
 
-pub brief_last_gives : (first k : Text) → IsPlainWord k → Gives (first ∷ codes "solve" ∷ k ∷ codes "--brief" ∷ []) (solve_named true k)
+pub brief_last_gives : (first k : Text) → IsPlainWord k → Gives (first ∷ codes "solve" ∷ k ∷ codes "--brief" ∷ []) (solve_named Brief k)
 unfolding clap_on_literals program
 brief_last_gives first k w = record {
   taken = takes_by first _ (codes "solve") (k ∷ codes "--brief" ∷ []) (brief_last_meets k) (brief_last_level k w);
@@ -89,7 +90,7 @@ unfolding clap_on_literals program
 brief_first_level k w =
     level_by (shape_named (codes "solve")) (codes "--brief" ∷ k ∷ []) (brief_first_end k) (brief_first_ends k w) (pass (shape_named (codes "solve")) 1 brief_held k [] w refl refl) refl
 
-pub brief_first_gives : (first k : Text) → IsPlainWord k → Gives (first ∷ codes "solve" ∷ codes "--brief" ∷ k ∷ []) (solve_named true k)
+pub brief_first_gives : (first k : Text) → IsPlainWord k → Gives (first ∷ codes "solve" ∷ codes "--brief" ∷ k ∷ []) (solve_named Brief k)
 unfolding clap_on_literals program
 brief_first_gives first k w = record {
   taken = takes_by first _ (codes "solve") (codes "--brief" ∷ k ∷ []) (brief_first_meets k) (brief_first_level k w);

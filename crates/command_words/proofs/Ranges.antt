@@ -5,6 +5,8 @@ use Rattle.mb_problem.proofs.Common.{natural, kind_named, vertex_value_of, is_dr
 use Rattle.std.proofs.Common.{option_map}
 use Rattle.mb_problem.specs.declared.kind.Kind.{Kind}
 use Rattle.mb_problem.specs.declared.limits.TheConstants.{VERTEX_LIMIT, EDGE_LIMIT}
+use Rattle.solve_answers.specs.declared.detail.Detail.{Detail}
+use Rattle.solve_answers.specs.declared.detail.Detail.TheVariants.{Full, Brief}
 use Rattle.command_words.specs.declared.command.Command.{Command}
 use Rattle.command_words.specs.declared.command.Command.TheVariants.{Solve, Check, Trial}
 use Rattle.command_words.specs.Commands.{solve_named, solve_briefly, check_named, natural_within, marks_ends, has_ends, is_made, trial, trial_by, command_of, IsTrialSize, HasRanges}
@@ -40,9 +42,9 @@ trial_ranges (Some kind) (Some s) None om c hn hm e = absurd cc
 trial_ranges (Some kind) (Some s) (Some n) None c hn hm e = absurd cc
 trial_ranges (Some kind) (Some s) (Some n) (Some m) c hn hm e = chosen (is_made kind n m) kind s n m c refl (hn n refl) (hm m refl) e
 
-solve_ranges : (brief : Bool) (o : Option Kind) (c : Command) → option_map (λ kind. Solve kind brief) o ≡ Some c → HasRanges c
-solve_ranges brief None c e = absurd cc
-solve_ranges brief (Some kind) c e = (let same : Solve kind brief ≡ c = cc in subst HasRanges same tt)
+solve_ranges : (detail : Detail) (o : Option Kind) (c : Command) → option_map (λ kind. Solve kind detail) o ≡ Some c → HasRanges c
+solve_ranges detail None c e = absurd cc
+solve_ranges detail (Some kind) c e = (let same : Solve kind detail ≡ c = cc in subst HasRanges same tt)
 
 check_ranges : (o : Option Kind) (c : Command) → option_map (λ kind. Check kind) o ≡ Some c → HasRanges c
 check_ranges None c e = absurd cc
@@ -60,12 +62,12 @@ command_ranges [] c e = no_command c e
 command_ranges (name ∷ []) c e = no_command c e
 command_ranges (name ∷ a ∷ []) c e = no_command c e
 command_ranges (name ∷ a ∷ b ∷ []) c e =
-    either (bytes_eq a (codes "solve")) (solve_named false b) (cond (bytes_eq a (codes "check")) (check_named b) None) c (solve_ranges false (kind_named b) c)
+    either (bytes_eq a (codes "solve")) (solve_named Full b) (cond (bytes_eq a (codes "check")) (check_named b) None) c (solve_ranges Full (kind_named b) c)
     (either (bytes_eq a (codes "check")) (check_named b) None c (check_ranges (kind_named b) c) (no_command c)) e
 command_ranges (name ∷ a ∷ b ∷ d ∷ []) c e =
     either (bytes_eq a (codes "solve")) (solve_briefly b d) None c
-    (either (bytes_eq d (codes "--brief")) (solve_named true b) (cond (bytes_eq b (codes "--brief")) (solve_named true d) None) c (solve_ranges true (kind_named b) c)
-    (either (bytes_eq b (codes "--brief")) (solve_named true d) None c (solve_ranges true (kind_named d) c) (no_command c))) (no_command c) e
+    (either (bytes_eq d (codes "--brief")) (solve_named Brief b) (cond (bytes_eq b (codes "--brief")) (solve_named Brief d) None) c (solve_ranges Brief (kind_named b) c)
+    (either (bytes_eq b (codes "--brief")) (solve_named Brief d) None c (solve_ranges Brief (kind_named d) c) (no_command c))) (no_command c) e
 command_ranges (name ∷ a ∷ b ∷ d ∷ f ∷ []) c e = no_command c e
 command_ranges (name ∷ a ∷ k ∷ s ∷ n ∷ m ∷ []) c e =
     either (bytes_eq a (codes "trial")) (trial_by k s n m) None c

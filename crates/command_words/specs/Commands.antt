@@ -10,17 +10,24 @@ use Rattle.mb_problem.specs.declared.kind.VertexValue.TheVariants.{Unused, Degre
 use Rattle.mb_problem.specs.declared.kind.VertexValue.TheVariants.{Bounds}
 use Rattle.mb_problem.specs.declared.limits.TheConstants.{VERTEX_LIMIT, EDGE_LIMIT}
 use Rattle.mb_problem.specs.Kinds.{kind_named, vertex_value_of, is_drawn}
+use Rattle.solve_answers.specs.declared.detail.Detail.{Detail}
+use Rattle.solve_answers.specs.declared.detail.Detail.TheVariants.{Full, Brief}
 use Rattle.command_words.specs.declared.command.Command.{Command}
 use Rattle.command_words.specs.declared.command.Command.TheVariants.{Solve, Check, Trial}
 
 -- the command that solves the kind of this name
-abbrev pub solve_named : Bool → List ℕ → Option Command
-solve_named brief name = option_map (λ kind. Solve kind brief) (kind_named name)
+abbrev pub solve_named : Detail → List ℕ → Option Command
+solve_named detail name = option_map (λ kind. Solve kind detail) (kind_named name)
+
+-- how much of an answer `solve` states with the flag or without it
+abbrev pub detail_by : Bool → Detail
+detail_by true = Brief
+detail_by false = Full
 
 -- the flag of brief answers stands after the kind or before it
 abbrev pub solve_briefly : List ℕ → List ℕ → Option Command
-solve_briefly a b = if bytes_eq b (codes "--brief") then solve_named true a
-    else (if bytes_eq a (codes "--brief") then solve_named true b else None)
+solve_briefly a b = if bytes_eq b (codes "--brief") then solve_named Brief a
+    else (if bytes_eq a (codes "--brief") then solve_named Brief b else None)
 
 abbrev pub check_named : List ℕ → Option Command
 check_named name = option_map (λ kind. Check kind) (kind_named name)
@@ -61,7 +68,7 @@ trial_by name start n m =
 -- the command that the words after the program's name are
 abbrev pub after_name : List (List ℕ) → Option Command
 after_name (a ∷ b ∷ []) =
-    if bytes_eq a (codes "solve") then solve_named false b else
+    if bytes_eq a (codes "solve") then solve_named Full b else
     (if bytes_eq a (codes "check") then check_named b else None)
 after_name (a ∷ b ∷ c ∷ []) = if bytes_eq a (codes "solve") then solve_briefly b c else None
 after_name (a ∷ b ∷ c ∷ d ∷ e ∷ []) = if bytes_eq a (codes "trial") then trial_by b c d e else None
@@ -81,6 +88,6 @@ pub record IsTrialSize (kind : Kind) (n m : ℕ) : Type 0 where
   pub path : vertex_value_of kind ≡ End → 2 ≤ n
 
 abbrev pub HasRanges : Command → Type 0
-HasRanges (Solve kind brief) = Unit {0}
+HasRanges (Solve kind detail) = Unit {0}
 HasRanges (Check kind) = Unit {0}
 HasRanges (Trial kind start n m) = IsTrialSize kind n m

@@ -6,7 +6,7 @@ use Rattle.clap.specs.Words.{App, Row, Rule, Text, first_of, new_app, new_rule, 
 use Rattle.clap.specs.Words.{takes, with_rule, with_subcommand}
 use Rattle.clap.specs.declared.builder.action.ArgAction.TheVariants.{SetTrue}
 use Rattle.command_words.specs.declared.command.Command.{Command}
-use Rattle.command_words.specs.Commands.{solve_named, check_named, trial_by}
+use Rattle.command_words.specs.Commands.{detail_by, solve_named, check_named, trial_by}
 
 -- a word that is wanted
 abbrev pub wanted : Text → Rule
@@ -40,8 +40,9 @@ text_in id rows = unwrap_or (first_of id rows) []
 -- the command that a subcommand and its matches are
 abbrev pub command_in : Text → List Row → Option Command
 command_in name rows =
-    if bytes_eq name (codes "solve") then solve_named (bytes_eq (text_in (codes "brief") rows)
-    (codes "true")) (text_in (codes "kind") rows)
+    if bytes_eq name (codes "solve") then solve_named
+    (detail_by (bytes_eq (text_in (codes "brief") rows) (codes "true")))
+    (text_in (codes "kind") rows)
     else if bytes_eq name (codes "check") then check_named (text_in (codes "kind") rows)
     else if bytes_eq name (codes "trial") then trial_by (text_in (codes "kind") rows)
     (text_in (codes "start") rows) (text_in (codes "vertices") rows)

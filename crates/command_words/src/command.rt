@@ -1,18 +1,19 @@
 ghost use Rattle.std.specs.Prelude.{◌≡◌, ◌-◌, ◌^◌};
 ghost use Rattle.mb_problem.specs.Kinds.{vertex_value_of};
-ghost use Rattle.command_words.specs.Commands.{solve_named, check_named, marks_ends, has_ends};
-ghost use Rattle.command_words.specs.Commands.{is_made, trial_by};
+ghost use Rattle.command_words.specs.Commands.{detail_by, solve_named, check_named, marks_ends};
+ghost use Rattle.command_words.specs.Commands.{has_ends, is_made, trial_by};
 
 use crate::natural::read_natural;
 use mb_problem::{EDGE_LIMIT, Kind, VERTEX_LIMIT, VertexValue};
+use solve_answers::Detail;
 
 /// What the program is to do.
 #[derive(Clone, Copy)]
 pub enum Command {
-    /// Solve an instance. In brief the answer comes without what proves it.
+    /// Solve an instance, and state so much of the answer.
     Solve {
         kind: Kind,
-        brief: bool,
+        detail: Detail,
     },
     /// Judge a document for its instance.
     Check {
@@ -27,12 +28,19 @@ pub enum Command {
     },
 }
 
-/// The command that solves the kind of this name.
-pub fn read_solve(name: &str, brief: bool) -> Option<Command>
-    ensures { result ≡ solve_named brief name.now }
+/// How much of an answer is stated with the flag of brief answers or without it.
+pub fn detail_by(brief: bool) -> Detail
+    ensures { result ≡ detail_by brief }
+{
+    if brief { Detail::Brief } else { Detail::Full }
+}
+
+/// The command that solves the kind of this name, and states so much of the answer.
+pub fn read_solve(name: &str, detail: Detail) -> Option<Command>
+    ensures { result ≡ solve_named detail name.now }
 {
     let kind = Kind::named(name.as_bytes())?;
-    Some(Command::Solve { kind, brief })
+    Some(Command::Solve { kind, detail })
 }
 
 /// The command that judges documents of the kind of this name.

@@ -8,7 +8,7 @@ ghost use Rattle.command_words.specs.Program.{subcommand_wanted, text_in, comman
 ghost use Rattle.command_words.specs.Program.{found_in};
 ghost use Rattle.command_words.specs.Parts.{IsArgument, IsSubcommand};
 
-use crate::command::{Command, read_check, read_solve, read_trial};
+use crate::command::{Command, detail_by, read_check, read_solve, read_trial};
 use clap::error::ErrorKind;
 use clap::{Arg, ArgAction, ArgMatches};
 use mb_base::OutOfMemory;
@@ -146,7 +146,10 @@ fn text_in<'a>(matches: &ArgMatches<'a>, id: &str) -> &'a str
 fn solve_in(found: &ArgMatches<'_>) -> Option<Command>
     ensures { result ≡ command_in (codes "solve") (rows_of (found_of found.now)) }
 {
-    read_solve(text_in(found, "kind"), text_in(found, "brief") == "true")
+    read_solve(
+        text_in(found, "kind"),
+        detail_by(text_in(found, "brief") == "true"),
+    )
 }
 
 /// The command that the matches of the subcommand that checks are.

@@ -10,6 +10,7 @@ use certificates::is_within_limits;
 use doc_format::Document;
 use mb_base::Steps;
 use mb_problem::{Instance, Kind, gadget_size};
+use solve_answers::Detail;
 use std::alloc::Global;
 use std::sync::ledger::Ledger;
 
@@ -33,13 +34,13 @@ pub fn solve_sized<L: Ledger>(
     alloc: Global,
     instance: &Instance,
     kind: Kind,
-    brief: bool,
+    detail: Detail,
     steps: &mut Steps<L>,
 ) -> Result<Document, SolveError>
     requires well_formed { IsReady kind instance.now }
 
     // The document of an instance within the limits, or the size that is past one.
-    ensures answer { SolvesSized brief kind instance.now result }
+    ensures answer { SolvesSized detail kind instance.now result }
 
     // Within the steps of `solve`, and none past a limit.
     ensures steps { CountsSized kind instance.now steps.old steps.new result }
@@ -52,7 +53,7 @@ pub fn solve_sized<L: Ledger>(
     if !is_within_limits(vertices, edges) {
         return Err(SolveError::TooLarge { vertices, edges });
     }
-    match solve_written(alloc, instance, kind, brief, steps) {
+    match solve_written(alloc, instance, kind, detail, steps) {
         Ok(document) => Ok(document),
         Err(_) => Err(SolveError::OutOfMemory),
     }

@@ -1,5 +1,5 @@
 ghost use Rattle.std.specs.Prelude.{◌≡◌, ◌≤◌, ◌+◌, ◌*◌, length, true, false, IfOk};
-ghost use Rattle.mb_problem.specs.Kinds.{searches_of, proof_of, are_duals};
+ghost use Rattle.mb_problem.specs.Kinds.{searches_of};
 ghost use Rattle.mb_problem.specs.Ready.{IsReady};
 ghost use Rattle.mb_problem.specs.Size.{size_of};
 ghost use Rattle.graph_theory.specs.Limits.{IsWithinLimits};
@@ -17,31 +17,10 @@ use crate::even_paths::greatest;
 use doc_format::Document;
 use mb_base::{OutOfMemory, Steps};
 use mb_problem::{BestProof, Instance, Kind};
+use solve_answers::Detail;
+use solve_kinds::solve_for;
 use std::alloc::Global;
 use std::sync::ledger::Ledger;
-
-/// The document of a kind whose best answers duals prove, to be written in full or in brief.
-fn by_duals<L: Ledger>(
-    alloc: Global,
-    instance: &Instance,
-    kind: Kind,
-    brief: bool,
-    steps: &mut Steps<L>,
-) -> Result<Document, OutOfMemory>
-    requires limits { IsWithinLimits (size_of kind instance.now) }
-    requires duals { are_duals (proof_of kind) ≡ true }
-    requires well_formed { IsReady kind instance.now }
-    ensures settled { IfOk result (SettlesFor brief kind instance.now) }
-    ensures steps { steps.new ≤ steps.old
-        + searches_of kind * most_steps (size_of kind instance.now) }
-    ensures unsearched { IfOk result
-        (λ d. is_tested_first kind ≡ true → d.status ≡ Infeasible → steps.new ≡ steps.old) }
-{
-    if brief {
-        return solve_kinds::solve_brief(alloc, instance, kind, steps);
-    }
-    solve_kinds::solve(alloc, instance, kind, steps)
-}
 
 /// Solves an instance: the document of a best answer, or of what excludes all answers. It proves
 /// what it states, whole: an accepting judge is sure. If duals prove a best answer it is the one of
@@ -87,7 +66,7 @@ pub fn solve<L: Ledger>(
     ensures unsearched { IfOk result
         (λ d. is_tested_first kind ≡ true → d.status ≡ Infeasible → steps.new ≡ steps.old) }
 {
-    solve_written(alloc, instance, kind, false, steps)
+    solve_written(alloc, instance, kind, Detail::Full, steps)
 }
 
 /// The same for a document that is to be written, in full or in brief: it has the text of a
@@ -101,24 +80,24 @@ pub fn solve_written<L: Ledger>(
     alloc: Global,
     instance: &Instance,
     kind: Kind,
-    brief: bool,
+    detail: Detail,
     steps: &mut Steps<L>,
 ) -> Result<Document, OutOfMemory>
     requires limits { IsWithinLimits (size_of kind instance.now) }
     requires well_formed { IsReady kind instance.now }
 
     // The same of a document to be written with or without its certificate.
-    ensures written { IfOk result (IsWrittenFor kind instance.now brief) }
+    ensures written { IfOk result (IsWrittenFor kind instance.now detail) }
 
     // In full it settles the instance itself.
-    ensures settled { IfOk result (SettlesFor brief kind instance.now) }
+    ensures settled { IfOk result (SettlesFor detail kind instance.now) }
     ensures steps { steps.new ≤ steps.old
         + searches_of kind * most_steps (size_of kind instance.now) }
     ensures unsearched { IfOk result
         (λ d. is_tested_first kind ≡ true → d.status ≡ Infeasible → steps.new ≡ steps.old) }
 {
     match kind.proof() {
-        BestProof::Duals(_) => by_duals(alloc, instance, kind, brief, steps),
+        BestProof::Duals(_) => solve_for(alloc, instance, kind, detail, steps),
         BestProof::LighterBarrier => lightest(alloc, instance, kind, steps),
         BestProof::OuterPaths => greatest(alloc, instance, kind, steps),
     }

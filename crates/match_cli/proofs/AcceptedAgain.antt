@@ -1,6 +1,7 @@
 -- What `solve` wrote in full is accepted by `check` where it follows the input.
 use Rattle.certificates.proofs.Common.{◌≡◌, ℕ, ◌≤◌, false, List, [], ◌∷◌, ◌++◌, length, Option, None, Some, refl, sym, subst, ◌∙◌, arith, IfSome, codes}
 use Rattle.certificates.proofs.Common.{length-append, append_cancel_left, same_Some, IsWithinLimits, Extends, Kind, Network, size_of, Document, document_text}
+use Rattle.solve_answers.specs.declared.detail.Detail.TheVariants.{Full}
 use Rattle.solve_answers.proofs.Short.{limit-most}
 use Rattle.check_text.specs.declared.status.Status.{Status}
 use Rattle.check_text.specs.declared.status.Status.TheVariants.{Done, Rejected, Usage, Malformed, TooLarge, TooLong, ReadFault, WriteFault, OutOfMemory}
@@ -31,7 +32,7 @@ accepts_text kind front i d short alone fits solves =
     let accepts = accepts_both kind front i d alone.holds alone.alone read fits solves.proved solves.truth in
     (omega arith, (i, accepts.0, accepts.1, refl))
 
-solved_is_accepted : (kind : Kind) (bytes out : List ℕ) → length bytes ≤ SOLVE_BYTE_LIMIT → EndsLine bytes → DecidesSolve kind false bytes out Done → AcceptsBehind kind bytes out
+solved_is_accepted : (kind : Kind) (bytes out : List ℕ) → length bytes ≤ SOLVE_BYTE_LIMIT → EndsLine bytes → DecidesSolve kind Full bytes out Done → AcceptsBehind kind bytes out
 solved_is_accepted kind bytes out short ends h =
     let front = ends.0 in
     let i = h.0 in
@@ -44,7 +45,7 @@ solved_is_accepted kind bytes out short ends h =
 
 accepted_done : (command : Command) (bytes out : List ℕ) → Gives command bytes out Done → IsAcceptedBehind command bytes out Done
 accepted_done command bytes out h kind is ends =
-    let gives : Gives (Solve kind false) bytes out Done = subst (λ (c : Command). Gives c bytes out Done) is h in
+    let gives : Gives (Solve kind Full) bytes out Done = subst (λ (c : Command). Gives c bytes out Done) is h in
     solved_is_accepted kind bytes out gives.0 ends gives.1
 
 pub accepted_behind : (command : Command) (bytes out : List ℕ) (status : Status) → Gives command bytes out status → IsAcceptedBehind command bytes out status
@@ -69,7 +70,7 @@ again_of words (Some bytes) after (Some xs) None out h extends = tt
 again_of words (Some bytes) after (Some xs) (Some ys) out h extends = λ kind written solves ends is name.
     (let source : given (command_of words) (Some bytes) ≡ Some bytes = rw solves refl in
     let says : Out words bytes out Done = subst (λ (o : Option (List ℕ)). IfSome o (λ (b : List ℕ). Out words b out Done)) source h.0 in
-    let named : says.0 ≡ Solve kind false = same_Some says.0 (Solve kind false) (sym says.1 ∙ solves) in
+    let named : says.0 ≡ Solve kind Full = same_Some says.0 (Solve kind Full) (sym says.1 ∙ solves) in
     let same : out ≡ written = append_cancel_left xs out written (sym extends ∙ is) in
     let accepted : AcceptsBehind kind bytes out = accepted_done says.0 bytes out says.2 kind named ends in
     (Check kind, check_named kind name, subst (λ (o : List ℕ). AcceptsBehind kind bytes o) same accepted))

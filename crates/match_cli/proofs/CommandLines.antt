@@ -9,7 +9,7 @@ use Rattle.match_cli.specs.Runs.{left_by}
 -- a command that reads is given what its source tells
 given-reading : (command : Command) (limit : ℕ) (source : Option (List ℕ)) → limit_of command ≡ Some limit → given (Some command) source ≡ source
 given-reading (Check kind) limit source reads = refl
-given-reading (Solve kind brief) limit source reads = refl
+given-reading (Solve kind detail) limit source reads = refl
 given-reading (Trial kind start n m) limit source reads = absurd cc
 
 pub given_source : (words : List (List ℕ)) (command : Command) (limit : ℕ) (source : Option (List ℕ)) → command_of words ≡ Some command → limit_of command ≡ Some limit →
@@ -19,7 +19,7 @@ given_source words command limit source taken reads = rw taken (given-reading co
 -- a command that reads nothing is given nothing
 pub left-reading : (command : Command) (limit : ℕ) (bytes : List ℕ) → limit_of command ≡ Some limit → left_by command bytes ≡ []
 left-reading (Check kind) limit bytes reads = refl
-left-reading (Solve kind brief) limit bytes reads = refl
+left-reading (Solve kind detail) limit bytes reads = refl
 left-reading (Trial kind start n m) limit bytes reads = absurd cc
 
 -- `check` and the name of a kind are its command

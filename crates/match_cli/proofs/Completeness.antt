@@ -31,17 +31,17 @@ not_refused kind bytes i rule line holds ends (inr rest) = no_place (answer_plac
 
 not_malformed : (command : Command) (bytes out : List ℕ) (i : Network) → IsInput command bytes i → Answers command bytes out Malformed → ⊥
 not_malformed (Check kind) bytes out i input h = no_instance_and_fault kind (instance_part bytes) i h.0 h.1 input.holds h.2
-not_malformed (Solve kind brief) bytes out i input h = not_refused kind bytes i h.0 h.1 input.holds input.ends h.2
+not_malformed (Solve kind detail) bytes out i input h = not_refused kind bytes i h.0 h.1 input.holds input.ends h.2
 not_malformed (Trial kind start n m) bytes out i input h = h
 
 not_large : (command : Command) (bytes out : List ℕ) (i : Network) → IsInput command bytes i → Answers command bytes out TooLarge → ⊥
 not_large (Check kind) bytes out i input h = not_too_large kind bytes i h.0 input.holds input.fits h.1 h.2
-not_large (Solve kind brief) bytes out i input h = not_too_large kind bytes i h.0 input.holds input.fits h.1.holds h.2
+not_large (Solve kind detail) bytes out i input h = not_too_large kind bytes i h.0 input.holds input.fits h.1.holds h.2
 not_large (Trial kind start n m) bytes out i input h = h.0 (subst (λ (j : Network). IsWithinLimits (size_of kind j)) input.holds input.fits)
 
 may_reject : (command : Command) (bytes out : List ℕ) → Answers command bytes out Rejected → MayReject command
 may_reject (Check kind) bytes out h = tt
-may_reject (Solve kind brief) bytes out h = h
+may_reject (Solve kind detail) bytes out h = h
 may_reject (Trial kind start n m) bytes out h = h
 
 not_long : (command : Command) (bytes out : List ℕ) → IsShort command bytes → Gives command bytes out TooLong → ⊥

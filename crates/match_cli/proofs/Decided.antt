@@ -25,11 +25,11 @@ decided (Check kind) bytes out TooLong h = h
 decided (Check kind) bytes out ReadFault h = h
 decided (Check kind) bytes out WriteFault h = h
 decided (Check kind) bytes out OutOfMemory h = h
-decided (Solve kind brief) bytes out Usage h = h
-decided (Solve kind brief) bytes out TooLong h = h
-decided (Solve kind brief) bytes out ReadFault h = h
-decided (Solve kind brief) bytes out WriteFault h = h
-decided (Solve kind brief) bytes out OutOfMemory h = h
+decided (Solve kind detail) bytes out Usage h = h
+decided (Solve kind detail) bytes out TooLong h = h
+decided (Solve kind detail) bytes out ReadFault h = h
+decided (Solve kind detail) bytes out WriteFault h = h
+decided (Solve kind detail) bytes out OutOfMemory h = h
 decided (Trial kind start n m) bytes out Usage h = h
 decided (Trial kind start n m) bytes out TooLong h = h
 decided (Trial kind start n m) bytes out ReadFault h = h
@@ -40,7 +40,7 @@ decided (Trial kind start n m) bytes out OutOfMemory h = h
 
 pub truth_by : (command : Command) (bytes out : List ℕ) → Answers command bytes out Done → IsTrueBy command bytes
 truth_by (Check kind) bytes out h = (h.0, h.1, h.2)
-truth_by (Solve kind brief) bytes out h = (h.0, h.1, h.2, h.4)
+truth_by (Solve kind detail) bytes out h = (h.0, h.1, h.2, h.4)
 truth_by (Trial kind start n m) bytes out h = (h.1.0, h.1.1)
 
 pub tells_true : (command : Command) (bytes out : List ℕ) (status : Status) → Gives command bytes out status → TellsTrue command bytes status

@@ -101,7 +101,7 @@ none-counted words source steps = some-holds (given (command_of words) source) (
 counted-by : (command : Command) (source : Option (List ℕ)) (old new : ℕ) → limit_of command ≡ None → CountsInstance (Some command) [] old new →
     IfSome (given (Some command) source) (λ bytes. CountsInstance (Some command) bytes old new)
 counted-by (Check kind) source old new unread h = absurd cc
-counted-by (Solve kind brief) source old new unread h = absurd cc
+counted-by (Solve kind detail) source old new unread h = absurd cc
 counted-by (Trial kind start n m) source old new unread h = h
 
 pub counted-unread : (words : List (List ℕ)) (command : Command) (source : Option (List ℕ)) (bytes : List ℕ) (old new : ℕ) → command_of words ≡ Some command →

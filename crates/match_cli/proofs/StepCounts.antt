@@ -1,8 +1,9 @@
 -- Where nothing was counted, and what a search counts at most.
-use Rattle.certificates.proofs.Common.{◌≡◌, ℕ, ◌+◌, ◌*◌, ◌≤◌, List, Bool, Some, Result, Ok, Err, sym, subst, arith, mul-le-mul, IfOk, same_Some, Kind, Network, size_of}
+use Rattle.certificates.proofs.Common.{◌≡◌, ℕ, ◌+◌, ◌*◌, ◌≤◌, List, Some, Result, Ok, Err, sym, subst, arith, mul-le-mul, IfOk, same_Some, Kind, Network, size_of}
 use Rattle.certificates.proofs.Common.{Size, IsWithinLimits, searches_of}
 use Rattle.mwpm_engine.specs.Solutions.{most_steps}
 use Rattle.dimacs_read.proofs.ReadingLemmas.{one_instance}
+use Rattle.solve_answers.specs.declared.detail.Detail.{Detail}
 use Rattle.command_words.specs.declared.command.Command.{Command}
 use Rattle.command_words.specs.declared.command.Command.TheVariants.{Solve, Trial}
 use Rattle.inst_gen.specs.Made.{made}
@@ -38,13 +39,13 @@ abbrev CountsFor : Command → Network → ℕ → ℕ → Type 0
 CountsFor command i before after = after ≤ before + searches_of (kind_of command) * most_steps (size_of (kind_of command) i)
 
 -- an input holds one instance
-pub counted_for : (kind : Kind) (brief : Bool) (bytes : List ℕ) (j : Network) (before after : ℕ) → InputHolds kind bytes j →
-    after ≤ before + searches_of kind * most_steps (size_of kind j) → CountsInstance (Some (Solve kind brief)) bytes before after
-counted_for kind brief bytes j before after held counted c i is holds =
-    let same : Solve kind brief ≡ c = same_Some (Solve kind brief) c is in
+pub counted_for : (kind : Kind) (detail : Detail) (bytes : List ℕ) (j : Network) (before after : ℕ) → InputHolds kind bytes j →
+    after ≤ before + searches_of kind * most_steps (size_of kind j) → CountsInstance (Some (Solve kind detail)) bytes before after
+counted_for kind detail bytes j before after held counted c i is holds =
+    let same : Solve kind detail ≡ c = same_Some (Solve kind detail) c is in
     let here : InputHolds kind bytes i = subst (λ (c : Command). HasInstance c bytes i) (sym same) holds in
     subst (λ (c : Command). CountsFor c i before after) same
-    (subst (λ (n : Network). CountsFor (Solve kind brief) n before after) (one_instance kind (instance_part bytes) j i held here) counted)
+    (subst (λ (n : Network). CountsFor (Solve kind detail) n before after) (one_instance kind (instance_part bytes) j i held here) counted)
 
 -- a trial makes one instance
 pub trial_counted_for : (kind : Kind) (start n m : ℕ) (bytes : List ℕ) (before after : ℕ) → after ≤ before + searches_of kind * most_steps (size_of kind (made kind start n m)) →

@@ -1,5 +1,5 @@
 -- What the program answers to its words and its input: what is written, and the status.
-use Rattle.std.specs.Prelude.{◌≡◌, ℕ, ◌+◌, ◌<◌, ◌⊎◌, List, length, Bool, codes, Option, None, Some}
+use Rattle.std.specs.Prelude.{◌≡◌, ℕ, ◌+◌, ◌<◌, ◌⊎◌, List, length, codes, Option, None, Some}
 use Rattle.mb_base.specs.Rows.{rows}
 use Rattle.graph_theory.specs.Limits.{IsWithinLimits}
 use Rattle.mb_problem.specs.declared.kind.Kind.{Kind}
@@ -11,6 +11,8 @@ use Rattle.dimacs_read.specs.Rows.{is_solution}
 use Rattle.dimacs_read.specs.Format.{IsFirstFault, first_place}
 use Rattle.doc_format.specs.declared.document.Document.{Document}
 use Rattle.doc_format.specs.Spelling.{document_text}
+use Rattle.solve_answers.specs.declared.detail.Detail.{Detail}
+use Rattle.solve_answers.specs.Details.{is_brief}
 use Rattle.check_text.specs.declared.status.Status.{Status}
 use Rattle.check_text.specs.declared.status.Status.TheVariants.{Done, Usage, Malformed}
 use Rattle.check_text.specs.declared.status.Status.TheVariants.{TooLarge, TooLong}
@@ -44,27 +46,28 @@ RefusesInput kind bytes rule line =
     × ((k : ℕ) × (answer_place bytes ≡ Some k) × (line ≡ k + 1)))
 
 -- what `solve` writes, in full or in brief, and its status, for input within its limit of bytes
-abbrev pub DecidesSolve : Kind → Bool → List ℕ → List ℕ → Status → Type 0
-DecidesSolve kind brief bytes out Malformed = (rule : Rule) × (line : ℕ)
+abbrev pub DecidesSolve : Kind → Detail → List ℕ → List ℕ → Status → Type 0
+DecidesSolve kind detail bytes out Malformed = (rule : Rule) × (line : ℕ)
     × RefusesInput kind bytes rule line × (out ≡ malformed_line rule line)
-DecidesSolve kind brief bytes out TooLarge = (i : Network) × HoldsAlone kind bytes i
+DecidesSolve kind detail bytes out TooLarge = (i : Network) × HoldsAlone kind bytes i
     × ¬ IsWithinLimits (size_of kind i) × (out ≡ too_large_line (size_of kind i))
-DecidesSolve kind brief bytes out Done = (i : Network) × (d : Document) × HoldsAlone kind bytes i
-    × IsWithinLimits (size_of kind i) × Solves kind i d × (out ≡ document_text d brief)
-DecidesSolve kind brief bytes out _ = ⊥
+DecidesSolve kind detail bytes out Done = (i : Network) × (d : Document) × HoldsAlone kind bytes i
+    × IsWithinLimits (size_of kind i) × Solves kind i d
+    × (out ≡ document_text d (is_brief detail))
+DecidesSolve kind detail bytes out _ = ⊥
 
 -- ---- the program
 
 -- the instance that a command is about: the one that its input holds, or that it makes
 abbrev pub HasInstance : Command → List ℕ → Network → Type 0
 HasInstance (Check kind) bytes i = InputHolds kind bytes i
-HasInstance (Solve kind brief) bytes i = InputHolds kind bytes i
+HasInstance (Solve kind detail) bytes i = InputHolds kind bytes i
 HasInstance (Trial kind start n m) bytes i = i ≡ made kind start n m
 
 -- what a command writes, and its status, for input within its limit of bytes
 abbrev pub Answers : Command → List ℕ → List ℕ → Status → Type 0
 Answers (Check kind) bytes out status = Decides kind bytes out status
-Answers (Solve kind brief) bytes out status = DecidesSolve kind brief bytes out status
+Answers (Solve kind detail) bytes out status = DecidesSolve kind detail bytes out status
 Answers (Trial kind start n m) bytes out status = TrialAnswer kind (made kind start n m) out status
 
 -- What a command answers to the bytes of any input: what is written, and the status.

@@ -1,8 +1,9 @@
 -- What a call answers to its bytes.
-use Rattle.std.specs.Prelude.{◌≡◌, ℕ, List, [], true, false}
+use Rattle.std.specs.Prelude.{◌≡◌, ℕ, List, []}
 use Rattle.mb_problem.specs.declared.kind.Kind.{Kind}
 use Rattle.command_words.specs.declared.command.Command.{Command}
 use Rattle.command_words.specs.declared.command.Command.TheVariants as command
+use Rattle.solve_answers.specs.declared.detail.Detail.TheVariants.{Full, Brief}
 use Rattle.check_text.specs.declared.status.Status.{Status}
 use Rattle.check_text.specs.declared.status.Status.TheVariants.{Usage, ReadFault, WriteFault}
 use Rattle.check_text.specs.declared.status.Status.TheVariants.{OutOfMemory}
@@ -12,8 +13,8 @@ use Rattle.match_cli.specs.declared.task.Task.TheVariants.{Solve, SolveBriefly, 
 
 -- the command that is the task for the kind
 abbrev pub command_for : Task → Kind → Command
-command_for Solve kind = command.Solve kind false
-command_for SolveBriefly kind = command.Solve kind true
+command_for Solve kind = command.Solve kind Full
+command_for SolveBriefly kind = command.Solve kind Brief
 command_for Check kind = command.Check kind
 
 -- What the command answers to the bytes, the whole text and the status; or there isn't enough

@@ -24,7 +24,7 @@ largest = record { vertices = GRAPH_VERTEX_LIMIT; edges = GRAPH_EDGE_LIMIT }
 abbrev pub CountsSearch : Option Command → ℕ → ℕ → Type 0
 CountsSearch None before after = after ≡ before
 CountsSearch (Some (Check kind)) before after = after ≡ before
-CountsSearch (Some (Solve kind brief)) before after = after
+CountsSearch (Some (Solve kind detail)) before after = after
     ≤ before + searches_of kind * most_steps largest
 CountsSearch (Some (Trial kind start n m)) before after = after
     ≤ before + searches_of kind * most_steps largest

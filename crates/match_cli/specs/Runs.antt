@@ -1,6 +1,6 @@
 -- What a run leaves of its source and its sink, by its status.
 use Rattle.std.specs.Prelude.{◌≡◌, ℕ, ◌+◌, ◌<◌, List, [], ◌∷◌, ◌++◌, length, take, drop, codes}
-use Rattle.std.specs.Prelude.{false, Option, Some, None, IfSome}
+use Rattle.std.specs.Prelude.{Option, Some, None, IfSome}
 use Rattle.mb_base.specs.Streams.{Extends, UsesRoom, StaysTold}
 use Rattle.graph_theory.specs.Limits.{IsWithinLimits}
 use Rattle.mb_problem.specs.declared.kind.Kind.{Kind}
@@ -8,6 +8,7 @@ use Rattle.mb_problem.specs.Network.{Network}
 use Rattle.mb_problem.specs.Size.{size_of}
 use Rattle.doc_format.specs.declared.document.Document.{Document}
 use Rattle.mb_problem.specs.Kinds.{kind_text}
+use Rattle.solve_answers.specs.declared.detail.Detail.TheVariants.{Full}
 use Rattle.check_text.specs.declared.status.Status.{Status}
 use Rattle.check_text.specs.declared.status.Status.TheVariants.{Done, Rejected, Usage, Malformed}
 use Rattle.check_text.specs.declared.status.Status.TheVariants.{TooLarge, TooLong, ReadFault}
@@ -25,7 +26,7 @@ use Rattle.match_cli.specs.Answers.{HasInstance, Gives, Out, HoldsAlone}
 -- what a command leaves of the source's bytes: nothing if it reads them, else all
 abbrev pub left_by : Command → List ℕ → List ℕ
 left_by (Check kind) bytes = []
-left_by (Solve kind brief) bytes = []
+left_by (Solve kind detail) bytes = []
 left_by (Trial kind start n m) bytes = bytes
 
 -- What is left of the source's bytes after an answer: all of them where the words aren't a command,
@@ -112,7 +113,7 @@ CountsRun source_before source_after sink_before sink_after status = (source_aft
 -- what a document states that was accepted, written or tried is true of its instance
 abbrev pub IsTrueBy : Command → List ℕ → Type 0
 IsTrueBy (Check kind) bytes = (i : Network) × (d : Document) × Accepts kind bytes i d
-IsTrueBy (Solve kind brief) bytes = (i : Network) × (d : Document) × HoldsAlone kind bytes i
+IsTrueBy (Solve kind detail) bytes = (i : Network) × (d : Document) × HoldsAlone kind bytes i
     × Solves kind i d
 IsTrueBy (Trial kind start n m) bytes = (d : Document) × Solves kind (made kind start n m) d
 
@@ -133,7 +134,7 @@ EndsLine bytes = (front : List ℕ) × (bytes ≡ front ++ 10 ∷ [])
 
 -- `check` accepts what a full answer of `solve` wrote where it follows the input
 abbrev pub IsAcceptedBehind : Command → List ℕ → List ℕ → Status → Type 0
-IsAcceptedBehind command bytes written Done = (kind : Kind) → command ≡ Solve kind false
+IsAcceptedBehind command bytes written Done = (kind : Kind) → command ≡ Solve kind Full
     → EndsLine bytes → Gives (Check kind) (bytes ++ written) (codes "s ACCEPTED\n") Done
 IsAcceptedBehind command bytes written status = Unit {0}
 
@@ -147,7 +148,7 @@ abbrev pub IsAcceptedAgain : List (List ℕ) → Option (List ℕ) → Option (L
     → Status → Type 0
 IsAcceptedAgain words before taken_before taken_after Done =
     IfSome before (λ bytes. IfSome taken_before (λ taken. IfSome taken_after (λ now.
-    (kind : Kind) (written : List ℕ) → command_of words ≡ Some (Solve kind false) → EndsLine bytes
+    (kind : Kind) (written : List ℕ) → command_of words ≡ Some (Solve kind Full) → EndsLine bytes
     → now ≡ taken ++ written → IsAccepted kind bytes written)))
 IsAcceptedAgain words before taken_before taken_after status = Unit {0}
 
@@ -156,7 +157,7 @@ IsAcceptedAgain words before taken_before taken_after status = Unit {0}
 -- nothing follows the instance, unless a document may
 abbrev pub EndsInput : Command → List ℕ → Type 0
 EndsInput (Check kind) bytes = Unit {0}
-EndsInput (Solve kind brief) bytes = document_part bytes ≡ []
+EndsInput (Solve kind detail) bytes = document_part bytes ≡ []
 EndsInput (Trial kind start n m) bytes = Unit {0}
 
 -- the bytes are within the limit of the command, whose instance this is, within the limits too
@@ -169,7 +170,7 @@ pub record IsInput (command : Command) (bytes : List ℕ) (i : Network) : Type 0
 -- `check` may refuse a document
 abbrev pub MayReject : Command → Type 0
 MayReject (Check kind) = Unit {0}
-MayReject (Solve kind brief) = ⊥
+MayReject (Solve kind detail) = ⊥
 MayReject (Trial kind start n m) = ⊥
 
 -- the answer of a command to an input, or a fault

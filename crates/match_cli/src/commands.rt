@@ -51,7 +51,7 @@ fn answer_within<L: Ledger>(
 {
     match command {
         Command::Check { kind } => check(alloc, kind, bytes),
-        Command::Solve { kind, brief } => solve(alloc, kind, brief, bytes, steps),
+        Command::Solve { kind, detail } => solve(alloc, kind, detail, bytes, steps),
         Command::Trial { kind, start, n, m } => trial(alloc, kind, start, n, m, steps),
     }
 }
@@ -101,7 +101,7 @@ fn answer_input_within<L: Ledger>(
 {
     match command {
         Command::Check { kind } => check_input(alloc, kind, input),
-        Command::Solve { kind, brief } => solve_input(alloc, kind, brief, input, steps),
+        Command::Solve { kind, detail } => solve_input(alloc, kind, detail, input, steps),
         Command::Trial { kind, start, n, m } => trial(alloc, kind, start, n, m, steps),
     }
 }

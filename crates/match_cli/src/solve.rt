@@ -6,6 +6,7 @@ ghost use Rattle.mb_problem.specs.Ready.{IsReady};
 ghost use Rattle.dimacs_read.specs.Reading.{Reads};
 ghost use Rattle.mwpm_engine.specs.Solutions.{most_steps};
 ghost use Rattle.doc_format.specs.Spelling.{document_text};
+ghost use Rattle.solve_answers.specs.Details.{is_brief};
 ghost use Rattle.match_cli.specs.Answers.{DecidesSolve};
 ghost use Rattle.match_cli.specs.Counts.{CountsAnswer, CountsInstance};
 ghost use Rattle.match_cli.specs.Solving.{DecidesSized, DecidesFollowed};
@@ -17,14 +18,15 @@ use doc_format::{Document, write};
 use kind_solver::{SolveError, solve_sized};
 use mb_base::{OutOfMemory, Steps};
 use mb_problem::{Instance, Kind};
+use solve_answers::Detail;
 use std::alloc::{AllocError, Global};
 use std::sync::ledger::Ledger;
 
-fn solved(alloc: Global, document: &Document, brief: bool) -> Result<Output, OutOfMemory>
-    ensures text { IfOk result (λ a. a.text.items ≡ document_text document.now brief) }
+fn solved(alloc: Global, document: &Document, detail: Detail) -> Result<Output, OutOfMemory>
+    ensures text { IfOk result (λ a. a.text.items ≡ document_text document.now (is_brief detail)) }
     ensures status { IfOk result (λ a. a.status ≡ Status.Done) }
 {
-    let text = write(alloc, document, brief)?;
+    let text = write(alloc, document, detail.is_brief())?;
     let status = Status::Done;
     Ok(Output { text, status })
 }
@@ -33,20 +35,20 @@ fn solved(alloc: Global, document: &Document, brief: bool) -> Result<Output, Out
 fn solve_instance<L: Ledger>(
     alloc: Global,
     kind: Kind,
-    brief: bool,
+    detail: Detail,
     instance: &Instance,
     steps: &mut Steps<L>,
 ) -> Result<Output, OutOfMemory>
     requires well_formed { IsReady kind instance.now }
     requires network { IsNetwork instance.now }
-    ensures answer { IfOk result (DecidesSized kind brief instance.now) }
-    ensures steps { CountsAnswer (Command.Solve kind brief) steps.old steps.new result }
+    ensures answer { IfOk result (DecidesSized kind detail instance.now) }
+    ensures steps { CountsAnswer (Command.Solve kind detail) steps.old steps.new result }
     ensures counted { steps.new ≤ steps.old + searches_of kind * most_steps
         (size_of kind instance.now) }
 {
-    match solve_sized(alloc, instance, kind, brief, steps) {
+    match solve_sized(alloc, instance, kind, detail, steps) {
         Ok(document) => {
-            let reply = solved(alloc, &document, brief);
+            let reply = solved(alloc, &document, detail);
             drop(document);
             reply
         }
@@ -59,42 +61,42 @@ fn solve_instance<L: Ledger>(
 fn solve_followed<L: Ledger>(
     alloc: Global,
     kind: Kind,
-    brief: bool,
+    detail: Detail,
     instance: &Instance,
     rest: &Rest,
     steps: &mut Steps<L>,
 ) -> Result<Output, OutOfMemory>
     requires well_formed { IsReady kind instance.now }
     requires network { IsNetwork instance.now }
-    ensures answer { IfOk result (DecidesFollowed kind brief instance.now rest.now) }
-    ensures steps { CountsAnswer (Command.Solve kind brief) steps.old steps.new result }
+    ensures answer { IfOk result (DecidesFollowed kind detail instance.now rest.now) }
+    ensures steps { CountsAnswer (Command.Solve kind detail) steps.old steps.new result }
     ensures counted { steps.new ≤ steps.old + searches_of kind * most_steps
         (size_of kind instance.now) }
 {
     if !rest.bytes.as_slice().is_empty() {
         return malformed(alloc, Rule::UnknownLine, rest.line);
     }
-    solve_instance(alloc, kind, brief, instance, steps)
+    solve_instance(alloc, kind, detail, instance, steps)
 }
 
 /// The answer to what was read of an input, whatever its bytes are.
 fn solve_read<L: Ledger>(
     alloc: Global,
     kind: Kind,
-    brief: bool,
+    detail: Detail,
     reading: Result<(Instance, Rest), InstanceError>,
     steps: &mut Steps<L>,
 ) -> Result<Output, OutOfMemory>
     requires well_formed { IfOk reading (λ r. IsReady kind r.0) }
     ensures answer { (bytes : List ℕ) → Reads kind bytes reading
-        → IfOk result (λ a. DecidesSolve kind brief bytes a.text.items a.status) }
-    ensures steps { CountsAnswer (Command.Solve kind brief) steps.old steps.new result }
+        → IfOk result (λ a. DecidesSolve kind detail bytes a.text.items a.status) }
+    ensures steps { CountsAnswer (Command.Solve kind detail) steps.old steps.new result }
     ensures counted { (bytes : List ℕ) → Reads kind bytes reading
-        → CountsInstance (Some (Command.Solve kind brief)) bytes steps.old steps.new }
+        → CountsInstance (Some (Command.Solve kind detail)) bytes steps.old steps.new }
 {
     match reading {
         Ok((instance, rest)) => {
-            let reply = solve_followed(alloc, kind, brief, &instance, &rest, steps);
+            let reply = solve_followed(alloc, kind, detail, &instance, &rest, steps);
             drop(instance);
             reply
         }
@@ -107,18 +109,18 @@ fn solve_read<L: Ledger>(
 pub fn solve<L: Ledger>(
     alloc: Global,
     kind: Kind,
-    brief: bool,
+    detail: Detail,
     bytes: &[u8],
     steps: &mut Steps<L>,
 ) -> Result<Output, OutOfMemory>
     requires short { length bytes.now ≤ 2 ^ 32 }
-    ensures answer { IfOk result (λ a. DecidesSolve kind brief bytes.now a.text.items a.status) }
-    ensures steps { CountsAnswer (Command.Solve kind brief) steps.old steps.new result }
-    ensures counted { CountsInstance (Some (Command.Solve kind brief)) bytes.now
+    ensures answer { IfOk result (λ a. DecidesSolve kind detail bytes.now a.text.items a.status) }
+    ensures steps { CountsAnswer (Command.Solve kind detail) steps.old steps.new result }
+    ensures counted { CountsInstance (Some (Command.Solve kind detail)) bytes.now
         steps.old steps.new }
 {
     let reading = read(alloc, bytes, kind);
-    solve_read(alloc, kind, brief, reading, steps)
+    solve_read(alloc, kind, detail, reading, steps)
 }
 
 /// What `solve` answers to an input within its limit that isn't kept: its bytes go before the
@@ -126,17 +128,17 @@ pub fn solve<L: Ledger>(
 pub fn solve_input<L: Ledger>(
     alloc: Global,
     kind: Kind,
-    brief: bool,
+    detail: Detail,
     input: Vec<u8>,
     steps: &mut Steps<L>,
 ) -> Result<Output, OutOfMemory>
     requires short { length input.items ≤ 2 ^ 32 }
-    ensures answer { IfOk result (λ a. DecidesSolve kind brief input.items a.text.items a.status) }
-    ensures steps { CountsAnswer (Command.Solve kind brief) steps.old steps.new result }
-    ensures counted { CountsInstance (Some (Command.Solve kind brief)) input.items
+    ensures answer { IfOk result (λ a. DecidesSolve kind detail input.items a.text.items a.status) }
+    ensures steps { CountsAnswer (Command.Solve kind detail) steps.old steps.new result }
+    ensures counted { CountsInstance (Some (Command.Solve kind detail)) input.items
         steps.old steps.new }
 {
     let reading = read(alloc, &input, kind);
     drop(input);
-    solve_read(alloc, kind, brief, reading, steps)
+    solve_read(alloc, kind, detail, reading, steps)
 }

@@ -3,6 +3,7 @@ ghost use Rattle.match_cli.specs.Calls.{command_for};
 
 use command_words::Command;
 use mb_problem::Kind;
+use solve_answers::Detail;
 
 /// What a call is to do.
 #[derive(Clone, Copy)]
@@ -20,8 +21,14 @@ pub fn command_for(task: Task, kind: Kind) -> Command
     ensures { result ≡ command_for task kind }
 {
     match task {
-        Task::Solve => Command::Solve { kind, brief: false },
-        Task::SolveBriefly => Command::Solve { kind, brief: true },
+        Task::Solve => Command::Solve {
+            kind,
+            detail: Detail::Full,
+        },
+        Task::SolveBriefly => Command::Solve {
+            kind,
+            detail: Detail::Brief,
+        },
         Task::Check => Command::Check { kind },
     }
 }

@@ -1,5 +1,5 @@
 -- What is promised of a document, and what is known if there is none yet.
-use Rattle.std.specs.Prelude.{◌≡◌, ℕ, ◌*◌, ◌≤◌, ◌^◌, length, Bool, true, false, [], Option, None}
+use Rattle.std.specs.Prelude.{◌≡◌, ℕ, ◌*◌, ◌≤◌, ◌^◌, length, true, false, [], Option, None}
 use Rattle.std.specs.Prelude.{Some}
 use Rattle.std.specs.Prelude.{IfSome}
 use Rattle.mb_problem.specs.declared.kind.Kind.{Kind}
@@ -11,6 +11,9 @@ use Rattle.mb_problem.specs.Network.{Network}
 use Rattle.doc_format.specs.declared.document.Document.{Document}
 use Rattle.doc_format.specs.Spelling.{document_text}
 use Rattle.certificates.specs.Proved.{IsProved, StatesTruth}
+use Rattle.solve_answers.specs.declared.detail.Detail.{Detail}
+use Rattle.solve_answers.specs.declared.detail.Detail.TheVariants.{Full}
+use Rattle.solve_answers.specs.Details.{is_brief}
 use Rattle.solve_answers.specs.Solved.{HasTrueStatus, HasFitWeights}
 use Rattle.solve_answers.specs.Chosen.{IsChosen}
 use Rattle.solve_answers.specs.Open.{HasNoPartFor}
@@ -44,20 +47,20 @@ pub record IsBare (d : Document) : Type 0 where
 
 -- A document that has the same answer as one that settles the instance, and the same text as it is
 -- written: in brief nothing of the duals and sets is, and they aren't there.
-pub record IsWrittenFor (kind : Kind) (i : Network) (brief : Bool) (d : Document) : Type 0 where
+pub record IsWrittenFor (kind : Kind) (i : Network) (detail : Detail) (d : Document) : Type 0 where
   pub whole : Document
   pub settles : Settles kind i whole
   pub status : d.status ≡ whole.status
   pub weight : d.weight ≡ whole.weight
   pub counts : d.counts ≡ whole.counts
   pub walk : d.walk ≡ whole.walk
-  pub text : document_text d brief ≡ document_text whole brief
-  pub bare : brief ≡ true → IsBare d
+  pub text : document_text d (is_brief detail) ≡ document_text whole (is_brief detail)
+  pub bare : is_brief detail ≡ true → IsBare d
 
 -- in full the document settles the instance itself
-abbrev pub SettlesFor : Bool → Kind → Network → Document → Type 0
-SettlesFor false kind i d = Settles kind i d
-SettlesFor true kind i d = IsWrittenFor kind i true d
+abbrev pub SettlesFor : Detail → Kind → Network → Document → Type 0
+SettlesFor Full kind i d = Settles kind i d
+SettlesFor detail kind i d = IsWrittenFor kind i detail d
 
 -- a document that settles an instance without duals and sets
 abbrev pub SettlesBare : Kind → Network → Document → Type 0

@@ -7,6 +7,7 @@
 //! is.
 #![tactic(auto)]
 
+mod detail;
 mod joins;
 mod limits;
 mod obstruction;
@@ -14,6 +15,7 @@ mod parts;
 mod reading;
 mod turns;
 
+pub use detail::Detail;
 pub use joins::as_counts;
 pub use limits::{DOCUMENT_BYTE_LIMIT, PATHS_BYTE_LIMIT};
 pub use obstruction::{infeasible, infeasible_by};

@@ -1,5 +1,5 @@
 -- Computed documents settle an instance.
-use Rattle.certificates.proofs.Common.{◌≡◌, ℕ, ◌≤◌, Bool, true, false, List, ◌∷◌, ◌++◌, length, map, All, refl, sym, ap, ◌∙◌, subst, flat_map, true≢false}
+use Rattle.certificates.proofs.Common.{◌≡◌, ℕ, ◌≤◌, true, false, List, ◌∷◌, ◌++◌, length, map, All, refl, sym, ap, ◌∙◌, subst, flat_map, true≢false}
 use Rattle.certificates.proofs.Common.{GRAPH_VERTEX_LIMIT, Kind, BestProof, Duals, LighterBarrier, OuterPaths, proof_of}
 use Rattle.certificates.proofs.Common.{are_duals, Network, Document, DocStatus, Optimal, Infeasible, NonConservative, Part, Count, CountLine, DualLine}
 use Rattle.certificates.proofs.Common.{SetLine, IsDocument, Body, body_of, answer, asked, row_text, head_row, part_row, document_text}
@@ -8,7 +8,10 @@ use Rattle.mwpm_engine.specs.Solutions.{Solution, IsSolved}
 use Rattle.least_joins.proofs.Listing.{listing}
 use Rattle.document_lines.proofs.DualLines.{lines_to, lines-duals, lines-ascend, lines-within}
 use Rattle.solve_kinds.specs.Presented.{StatesAnswer, Presents, PresentsBriefly, PresentsFor}
-use Rattle.solve_answers.specs.Settled.{Settles, SettlesBare, SettlesFor}
+use Rattle.solve_answers.specs.declared.detail.Detail.{Detail}
+use Rattle.solve_answers.specs.declared.detail.Detail.TheVariants.{Full, Brief}
+use Rattle.solve_answers.specs.Details.{is_brief}
+use Rattle.solve_answers.specs.Settled.{Settles, SettlesBare, IsWrittenFor, SettlesFor}
 use Rattle.solve_answers.specs.Solved.{HasTrueStatus, HasFitWeights}
 use Rattle.solve_kinds.proofs.Forms.{form-completed}
 use Rattle.solve_answers.proofs.InRange.{sets-formed}
@@ -32,9 +35,14 @@ settles-optimal kind i s d few fit of p =
 -- ---- what is written
 
 -- a document that settles the instance is written as itself
-pub settles-for : (brief : Bool) (kind : Kind) (i : Network) (d : Document) → SettlesBare kind i d → SettlesFor brief kind i d
-settles-for false kind i d h = h.0
-settles-for true kind i d h = record { whole = d; settles = h.0; status = refl; weight = refl; counts = refl; walk = refl; text = refl; bare = λ brief. h.1 }
+pub settles-for : (detail : Detail) (kind : Kind) (i : Network) (d : Document) → SettlesBare kind i d → SettlesFor detail kind i d
+settles-for Full kind i d h = h.0
+settles-for Brief kind i d h = record { whole = d; settles = h.0; status = refl; weight = refl; counts = refl; walk = refl; text = refl; bare = λ brief. h.1 }
+
+-- in full a document is written as itself
+pub written-for : (detail : Detail) (kind : Kind) (i : Network) (d : Document) → SettlesFor detail kind i d → IsWrittenFor kind i detail d
+written-for Full kind i d h = record { whole = d; settles = h; status = refl; weight = refl; counts = refl; walk = refl; text = refl; bare = λ brief. absurd (cc) }
+written-for Brief kind i d h = h
 
 -- in brief the text tells of the answer alone
 
@@ -107,10 +115,10 @@ presents-completed kind i s d best solved p =
       only = ap (λ (b : Body). record b { duals = duals_in s; sets = sets_in s solved }) p.only;
     }
 
-pub settles-presented : (brief : Bool) (kind : Kind) (i : Network) (s : Solution) (d : Document) → s.graph.vertices ≤ GRAPH_VERTEX_LIMIT → HasFitWeights kind i → Solves kind i s →
-    PresentsFor brief kind i s d → SettlesFor brief kind i d
-settles-presented false kind i s d few fit of p = settles-optimal kind i s d few fit of p
-settles-presented true kind i s d few fit of p = record {
+pub settles-presented : (detail : Detail) (kind : Kind) (i : Network) (s : Solution) (d : Document) → s.graph.vertices ≤ GRAPH_VERTEX_LIMIT → HasFitWeights kind i → Solves kind i s →
+    PresentsFor (is_brief detail) kind i s d → SettlesFor detail kind i d
+settles-presented Full kind i s d few fit of p = settles-optimal kind i s d few fit of p
+settles-presented Brief kind i s d few fit of p = record {
   whole = completed kind i s d of.duals of.solved p;
   settles = settles-optimal kind i s (completed kind i s d of.duals of.solved p) few fit of (presents-completed kind i s d of.duals of.solved p);
   status = refl;
@@ -121,6 +129,6 @@ settles-presented true kind i s d few fit of p = record {
   bare = λ brief. record { duals = ap (λ (b : Body). b.duals) p.only; sets = ap (λ (b : Body). b.sets) p.only };
 }
 
-pub states-for : (brief : Bool) (kind : Kind) (i : Network) (s : Solution) (d : Document) → PresentsFor brief kind i s d → StatesAnswer kind i s d
-states-for false kind i s d p = p.states
-states-for true kind i s d p = p.states
+pub states-for : (detail : Detail) (kind : Kind) (i : Network) (s : Solution) (d : Document) → PresentsFor (is_brief detail) kind i s d → StatesAnswer kind i s d
+states-for Full kind i s d p = p.states
+states-for Brief kind i s d p = p.states

@@ -10,6 +10,7 @@ ghost use Rattle.gadget_base.specs.Certified.{gadget_graph, ReachesAll};
 ghost use Rattle.mwpm_engine.specs.Solutions.{IsSolved, Solution};
 ghost use Rattle.mwpm_engine.specs.declared.outcome.Outcome.TheVariants.{Matched};
 ghost use Rattle.solve_answers.specs.Chosen.{IsChosenAnswer};
+ghost use Rattle.solve_answers.specs.Details.{is_brief};
 ghost use Rattle.solve_answers.specs.Open.{IsOpen};
 ghost use Rattle.solve_kinds.specs.Presented.{PaysFor};
 ghost use Rattle.solve_answers.specs.Stands.{HasFewSteps};
@@ -22,7 +23,7 @@ use mb_base::{OutOfMemory, Sequence};
 use mb_problem::{Answer, Instance, Kind, weight};
 use mwpm_engine::Engine;
 use outcome_lines::{dual_lines, set_lines};
-use solve_answers::answer;
+use solve_answers::{Detail, answer};
 use std::alloc::Global;
 use weighted_graph::Graph;
 
@@ -131,7 +132,7 @@ pub fn optimal(
     alloc: Global,
     instance: &Instance,
     kind: Kind,
-    brief: bool,
+    detail: Detail,
     engine: &Engine,
     graph: &Graph,
 ) -> Result<Document, OutOfMemory>
@@ -146,9 +147,9 @@ pub fn optimal(
     requires certified { graph.now ≡ gadget_graph kind instance.now }
     requires few_vertices { graph.now.vertices ≤ GRAPH_VERTEX_LIMIT }
     requires reached { ReachesAll kind instance.now }
-    ensures { IfOk result (PresentsFor brief kind instance.now engine.now) }
+    ensures { IfOk result (PresentsFor (is_brief detail) kind instance.now engine.now) }
 {
-    if brief {
+    if detail.is_brief() {
         return answered(alloc, instance, kind, engine, graph);
     }
     certified(alloc, instance, kind, engine, graph)

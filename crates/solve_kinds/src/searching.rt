@@ -24,7 +24,7 @@ use least_joins::barrier_vertices;
 use mb_base::{OutOfMemory, Steps};
 use mb_problem::{Instance, Kind, Obstruction};
 use mwpm_engine::{Engine, Outcome};
-use solve_answers::infeasible;
+use solve_answers::{Detail, infeasible};
 use std::alloc::Global;
 use std::sync::ledger::Ledger;
 use weighted_graph::Graph;
@@ -52,7 +52,7 @@ fn decided<L: Ledger>(
     alloc: Global,
     instance: &Instance,
     kind: Kind,
-    brief: bool,
+    detail: Detail,
     engine: &mut Engine,
     steps: &mut Steps<L>,
 ) -> Result<Document, OutOfMemory>
@@ -65,11 +65,11 @@ fn decided<L: Ledger>(
     requires certified { engine.old.graph ≡ gadget_graph kind instance.now }
     requires reached { ReachesAll kind instance.now }
     requires barrier { is_barrier (obstruction_of kind) ≡ true }
-    ensures settled { IfOk result (SettlesFor brief kind instance.now) }
+    ensures settled { IfOk result (SettlesFor detail kind instance.now) }
     ensures steps { steps.new ≤ steps.old + most_steps (size_of_graph engine.old.graph) }
 {
     match engine.solve(steps) {
-        Outcome::Matched => optimal(alloc, instance, kind, brief, engine, engine.graph()),
+        Outcome::Matched => optimal(alloc, instance, kind, detail, engine, engine.graph()),
         Outcome::Barrier => barred(alloc, kind, engine, engine.graph()),
     }
 }
@@ -80,7 +80,7 @@ fn assured<L: Ledger>(
     alloc: Global,
     instance: &Instance,
     kind: Kind,
-    brief: bool,
+    detail: Detail,
     engine: &mut Engine,
     steps: &mut Steps<L>,
 ) -> Result<Document, OutOfMemory>
@@ -93,12 +93,12 @@ fn assured<L: Ledger>(
     requires certified { engine.old.graph ≡ gadget_graph kind instance.now }
     requires reached { ReachesAll kind instance.now }
     requires perfect { HasPerfect engine.old.graph }
-    ensures settled { IfOk result (SettlesFor brief kind instance.now) }
+    ensures settled { IfOk result (SettlesFor detail kind instance.now) }
     ensures best { IfOk result (λ d. d.status ≡ Optimal) }
     ensures half { 2 * steps.new ≤ 2 * steps.old + most_steps (size_of_graph engine.old.graph) }
 {
     engine.solve_matched(steps);
-    optimal(alloc, instance, kind, brief, engine, engine.graph())
+    optimal(alloc, instance, kind, detail, engine, engine.graph())
 }
 
 /// The document of a best answer or of a barrier, by one run of an engine for the kind's
@@ -107,7 +107,7 @@ fn settled<L: Ledger>(
     alloc: Global,
     instance: &Instance,
     kind: Kind,
-    brief: bool,
+    detail: Detail,
     engine: &mut Engine,
     steps: &mut Steps<L>,
 ) -> Result<Document, OutOfMemory>
@@ -120,7 +120,7 @@ fn settled<L: Ledger>(
     requires certified { engine.old.graph ≡ gadget_graph kind instance.now }
     requires reached { ReachesAll kind instance.now }
     requires perfect { is_barrier (obstruction_of kind) ≡ false → HasPerfect engine.old.graph }
-    ensures settled { IfOk result (SettlesFor brief kind instance.now) }
+    ensures settled { IfOk result (SettlesFor detail kind instance.now) }
     ensures best { IfOk result (λ d. is_barrier (obstruction_of kind) ≡ false → d.status
         ≡ Optimal) }
     ensures steps { steps.new ≤ steps.old + most_steps (size_of_graph engine.old.graph) }
@@ -128,9 +128,9 @@ fn settled<L: Ledger>(
         → 2 * steps.new ≤ 2 * steps.old + most_steps (size_of_graph engine.old.graph) }
 {
     if kind.obstruction() == Obstruction::Barrier {
-        return decided(alloc, instance, kind, brief, engine, steps);
+        return decided(alloc, instance, kind, detail, engine, steps);
     }
-    assured(alloc, instance, kind, brief, engine, steps)
+    assured(alloc, instance, kind, detail, engine, steps)
 }
 
 /// The document of a best answer or of a barrier, by one search for a perfect matching of least
@@ -140,7 +140,7 @@ pub fn searched<L: Ledger>(
     alloc: Global,
     instance: &Instance,
     kind: Kind,
-    brief: bool,
+    detail: Detail,
     steps: &mut Steps<L>,
 ) -> Result<Document, OutOfMemory>
     requires limits { IsWithinLimits (size_of kind instance.now) }
@@ -148,7 +148,7 @@ pub fn searched<L: Ledger>(
     requires duals { are_duals (proof_of kind) ≡ true }
     requires well_formed { IsOpen kind instance.now }
     requires conservative { HasFitWeights kind instance.now }
-    ensures settled { IfOk result (SettlesFor brief kind instance.now) }
+    ensures settled { IfOk result (SettlesFor detail kind instance.now) }
     ensures best { IfOk result (λ d. is_barrier (obstruction_of kind) ≡ false → d.status
         ≡ Optimal) }
     ensures steps { steps.new ≤ steps.old + most_steps (size_of kind instance.now) }
@@ -157,7 +157,7 @@ pub fn searched<L: Ledger>(
 {
     let graph = certified(alloc, instance, kind)?;
     let mut engine = Engine::of(alloc, graph)?;
-    let document = settled(alloc, instance, kind, brief, &mut engine, steps);
+    let document = settled(alloc, instance, kind, detail, &mut engine, steps);
     engine.release();
     document
 }

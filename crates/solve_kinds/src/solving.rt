@@ -8,7 +8,7 @@ ghost use Rattle.doc_format.specs.declared.status.DocStatus.TheVariants.{Infeasi
 ghost use Rattle.certificates.specs.Proved.{IsProved, StatesTruth};
 ghost use Rattle.mwpm_engine.specs.Solutions.{most_steps};
 ghost use Rattle.solve_answers.specs.Chosen.{IsChosen};
-ghost use Rattle.solve_answers.specs.Settled.{HasShortWalk, IsWrittenFor, Settles};
+ghost use Rattle.solve_answers.specs.Settled.{HasShortWalk, Settles};
 ghost use Rattle.solve_answers.specs.Settled.{SettlesFor, byte_limit_of};
 ghost use Rattle.solve_answers.specs.Solved.{HasTrueStatus, is_tested_first};
 
@@ -17,39 +17,9 @@ use crate::searching::searched;
 use doc_format::Document;
 use mb_base::{OutOfMemory, Steps};
 use mb_problem::{EDGE_LIMIT, Instance, Kind};
-use solve_answers::excluded;
+use solve_answers::{Detail, excluded};
 use std::alloc::Global;
 use std::sync::ledger::Ledger;
-
-/// The document of a best answer, or of what excludes all answers, with all that proves it or, in
-/// brief, as far as that is written.
-fn solve_for<L: Ledger>(
-    alloc: Global,
-    instance: &Instance,
-    kind: Kind,
-    brief: bool,
-    steps: &mut Steps<L>,
-) -> Result<Document, OutOfMemory>
-    requires limits { IsWithinLimits (size_of kind instance.now) }
-    requires duals { are_duals (proof_of kind) ≡ true }
-    requires well_formed { IsReady kind instance.now }
-    ensures settled { IfOk result (SettlesFor brief kind instance.now) }
-    ensures steps { steps.new ≤ steps.old
-        + searches_of kind * most_steps (size_of kind instance.now) }
-    ensures once { HasWeightsFromZero instance.now
-        → steps.new ≤ steps.old + most_steps (size_of kind instance.now) }
-    ensures unsearched { IfOk result
-        (λ d. is_tested_first kind ≡ true → d.status ≡ Infeasible → steps.new ≡ steps.old) }
-{
-    prove!(instance.edges() <= EDGE_LIMIT);
-    if let Some(document) = unfit(alloc, instance, kind, steps)? {
-        return Ok(document);
-    }
-    if let Some(document) = excluded(alloc, instance, kind)? {
-        return Ok(document);
-    }
-    searched(alloc, instance, kind, brief, steps)
-}
 
 /// Solves an instance of a kind whose best answers duals prove: the document of a best answer, or
 /// of what excludes all answers. It proves what it states, whole: an accepting judge is sure. A
@@ -112,28 +82,30 @@ pub fn solve<L: Ledger>(
     ensures unsearched { IfOk result
         (λ d. is_tested_first kind ≡ true → d.status ≡ Infeasible → steps.new ≡ steps.old) }
 {
-    solve_for(alloc, instance, kind, false, steps)
+    solve_for(alloc, instance, kind, Detail::Full, steps)
 }
 
-/// The same for a document that is to be written in brief: it has the text of a document that
-/// `solve` could answer, and no duals and no sets, which are not written then.
+/// The same for a document that is to be written, in full or in brief: it has the text of a
+/// document that `solve` could answer. In brief it has no duals and no sets, which are not written
+/// then.
 ///
 /// # Errors
 ///
 /// `OutOfMemory` if an allocation fails.
-pub fn solve_brief<L: Ledger>(
+pub fn solve_for<L: Ledger>(
     alloc: Global,
     instance: &Instance,
     kind: Kind,
+    detail: Detail,
     steps: &mut Steps<L>,
 ) -> Result<Document, OutOfMemory>
     requires limits { IsWithinLimits (size_of kind instance.now) }
     requires duals { are_duals (proof_of kind) ≡ true }
     requires well_formed { IsReady kind instance.now }
 
-    // A document to be written without certificate, with the text of one of which all of this
-    // holds, and without duals and odd sets.
-    ensures written { IfOk result (IsWrittenFor kind instance.now true) }
+    // In full a document of which all of this holds; without certificate one to be written, with
+    // the text of such a document, and without duals and odd sets.
+    ensures settled { IfOk result (SettlesFor detail kind instance.now) }
 
     // Within the same steps.
     ensures steps { steps.new ≤ steps.old
@@ -143,5 +115,12 @@ pub fn solve_brief<L: Ledger>(
     ensures unsearched { IfOk result
         (λ d. is_tested_first kind ≡ true → d.status ≡ Infeasible → steps.new ≡ steps.old) }
 {
-    solve_for(alloc, instance, kind, true, steps)
+    prove!(instance.edges() <= EDGE_LIMIT);
+    if let Some(document) = unfit(alloc, instance, kind, steps)? {
+        return Ok(document);
+    }
+    if let Some(document) = excluded(alloc, instance, kind)? {
+        return Ok(document);
+    }
+    searched(alloc, instance, kind, detail, steps)
 }

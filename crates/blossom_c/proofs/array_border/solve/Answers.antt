@@ -6,5 +6,5 @@ use Rattle.blossom_c.proofs.array_border.solve.Goals as goal
 pub returns : goal.returns
 returns g c =
     let answer = c.answer_to-answer.result in
-    handed (Gives c.args.brief c.args.kind (arrays_of c.args.arrays.now)) answer.numbers.items answer.status c.args.output.now c.hand_over.new.output c.hand_over.new.used c.hand_over.result
+    handed (Gives c.args.detail c.args.kind (arrays_of c.args.arrays.now)) answer.numbers.items answer.status c.args.output.now c.hand_over.new.output c.hand_over.new.used c.hand_over.result
     c.answer_to-answer.ensures.answer c.hand_over.ensures

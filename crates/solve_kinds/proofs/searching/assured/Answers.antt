@@ -3,6 +3,7 @@ use Rattle.graph_theory.specs.Graph.{HasNoLoop}
 use Rattle.solve_kinds.proofs.Presenting.{Solves}
 use Rattle.solve_kinds.proofs.Settling.{settles-presented, states-for}
 use Rattle.solve_kinds.specs.Presented.{PresentsFor}
+use Rattle.solve_answers.specs.Details.{is_brief}
 use Rattle.solve_answers.specs.Settled.{SettlesFor}
 use Rattle.solve_kinds.proofs.searching.assured.Goals as goal
 
@@ -26,7 +27,7 @@ returns g c =
     let kind = c.args.kind in
     let i = c.args.instance.now in
     let s = c.solve_matched.new.self in
-    let brief = c.args.brief in
+    let detail = c.args.detail in
     let here : s.graph ≡ c.args.engine.now.graph = c.solve_matched.ensures.graph in
     let few : s.graph.vertices ≤ GRAPH_VERTEX_LIMIT = subst (λ (h : Multigraph). h.vertices ≤ GRAPH_VERTEX_LIMIT) (sym here) c.requires.size_limit in
     let of : Solves kind i s =
@@ -39,8 +40,8 @@ returns g c =
       solved = c.solve_matched.ensures.ends;
     } in
     record {
-      settled = IfOk-weaker c.optimal.result (PresentsFor brief kind i s) (SettlesFor brief kind i)
-          (λ d p. settles-presented brief kind i s d few c.requires.conservative of p) c.optimal.ensures;
-      best = IfOk-weaker c.optimal.result (PresentsFor brief kind i s) _ (λ d p. (states-for brief kind i s d p).status) c.optimal.ensures;
+      settled = IfOk-weaker c.optimal.result (PresentsFor (is_brief detail) kind i s) (SettlesFor detail kind i)
+          (λ d p. settles-presented detail kind i s d few c.requires.conservative of p) c.optimal.ensures;
+      best = IfOk-weaker c.optimal.result (PresentsFor (is_brief detail) kind i s) _ (λ d p. (states-for detail kind i s d p).status) c.optimal.ensures;
       half = c.solve_matched.ensures.steps;
     }

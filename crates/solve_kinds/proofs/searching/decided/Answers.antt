@@ -7,6 +7,7 @@ use Rattle.solve_answers.proofs.SettlingSets.{bare-set}
 use Rattle.solve_answers.proofs.PartDocuments.{never-no, settles-barred}
 use Rattle.solve_answers.specs.Excluding.{StatesSet}
 use Rattle.solve_kinds.specs.Presented.{PresentsFor}
+use Rattle.solve_answers.specs.Details.{is_brief}
 use Rattle.solve_answers.specs.Settled.{SettlesFor}
 use Rattle.solve_kinds.proofs.searching.decided.Goals as goal
 
@@ -30,7 +31,7 @@ returns-in-Matched g c =
     let kind = c.args.kind in
     let i = c.args.instance.now in
     let s = c.solve.new.self in
-    let brief = c.args.brief in
+    let detail = c.args.detail in
     let here : s.graph ≡ c.args.engine.now.graph = c.in-Matched.ensures.graph in
     let few : s.graph.vertices ≤ GRAPH_VERTEX_LIMIT = subst (λ (h : Multigraph). h.vertices ≤ GRAPH_VERTEX_LIMIT) (sym here) c.requires.size_limit in
     let of : Solves kind i s =
@@ -43,8 +44,8 @@ returns-in-Matched g c =
       solved = c.in-Matched.ensures.ends;
     } in
     record {
-      settled = IfOk-weaker c.optimal.result (PresentsFor brief kind i s) (SettlesFor brief kind i)
-          (λ d p. settles-presented brief kind i s d few c.requires.conservative of p) c.optimal.ensures;
+      settled = IfOk-weaker c.optimal.result (PresentsFor (is_brief detail) kind i s) (SettlesFor detail kind i)
+          (λ d p. settles-presented detail kind i s d few c.requires.conservative of p) c.optimal.ensures;
       steps = c.in-Matched.ensures.steps;
     }
 
@@ -70,8 +71,8 @@ returns-in-Barrier g c =
     let set : IsVertexSet h.vertices s.barrier = subst (λ (k : Multigraph). IsVertexSet k.vertices s.barrier) here c.in-Barrier.ensures.ends.vertex_set in
     let barrier : IsBarrier h s.barrier = subst (λ (k : Multigraph). IsBarrier k s.barrier) here c.in-Barrier.ensures.ends.excludes in
     record {
-      settled = IfOk-weaker c.barred.result (StatesSet kind s.barrier) (SettlesFor c.args.brief kind i)
-          (λ d p. settles-for c.args.brief kind i d (
+      settled = IfOk-weaker c.barred.result (StatesSet kind s.barrier) (SettlesFor c.args.detail kind i)
+          (λ d p. settles-for c.args.detail kind i d (
             settles-barred kind i h s.barrier d r.certified (subst IsGraph here c.graph-in-Barrier.ensures.is_graph) r.size_limit r.reached r.barrier r.network r.conservative set barrier p,
             bare-set kind s.barrier d p,
           )) c.barred.ensures;

@@ -44,7 +44,7 @@ returns-in_err-document-clause-steps g c = by-first (searches_of c.args.kind) (m
 
 pub returns-in-Some-clause-settled : goal.returns-in-Some-clause-settled
 returns-in-Some-clause-settled g c =
-    settles-for c.args.brief c.args.kind c.args.instance.now c.in-Some.document (subst (SettlesOrIsFit c.args.kind c.args.instance.now) c.in-Some.is c.in_ok-document.ensures.settled)
+    settles-for c.args.detail c.args.kind c.args.instance.now c.in-Some.document (subst (SettlesOrIsFit c.args.kind c.args.instance.now) c.in-Some.is c.in_ok-document.ensures.settled)
 
 pub returns-in-Some-clause-steps : goal.returns-in-Some-clause-steps
 returns-in-Some-clause-steps g c = by-first (searches_of c.args.kind) (most_steps (size_of c.args.kind c.args.instance.now)) c.args.steps.now c.unfit.new.steps c.unfit.ensures.steps
@@ -55,7 +55,7 @@ returns-in_err-document-2-clause-steps g c =
 
 pub returns-in-Some-2-clause-settled : goal.returns-in-Some-2-clause-settled
 returns-in-Some-2-clause-settled g c =
-    settles-for c.args.brief c.args.kind c.args.instance.now c.in-Some-2.document (subst (SettlesOrHasNoPart c.args.kind c.args.instance.now) c.in-Some-2.is c.in_ok-document-2.ensures)
+    settles-for c.args.detail c.args.kind c.args.instance.now c.in-Some-2.document (subst (SettlesOrHasNoPart c.args.kind c.args.instance.now) c.in-Some-2.is c.in_ok-document-2.ensures)
 
 pub returns-in-Some-2-clause-steps : goal.returns-in-Some-2-clause-steps
 returns-in-Some-2-clause-steps g c = by-first (searches_of c.args.kind) (most_steps (size_of c.args.kind c.args.instance.now)) c.args.steps.now c.unfit.new.steps c.unfit.ensures.steps
