@@ -499,9 +499,9 @@ static inline const int64_t *blossom_weights_(const int64_t *numbers) {
 /**
  * Solves an instance: `blossom_solve_arrays` over these structs.
  *
- * An array of `instance` that is NULL is absent. `numbers` may be NULL if `size` is 0: then
- * `length` becomes the length of the answer. At BLOSSOM_TOO_LARGE the first two of `numbers` are
- * the vertices and edges of the certificate graph.
+ * An array of `instance` that is NULL is absent. To ask for the length of the answer alone, set
+ * `size` to 0: `numbers` may then be NULL. At BLOSSOM_TOO_LARGE the first two of `numbers` are the
+ * vertices and edges of the certificate graph.
  *
  * @return an `enum blossom_status`
  */
@@ -596,8 +596,8 @@ static inline void blossom_point_joins_(struct blossom_joins_answer *answer, siz
  * Finds a minimum-weight T-join of `graph` for each set: `blossom_join_arrays` over these structs.
  *
  * The kind of `graph` is BLOSSOM_TJOIN, and its values are NULL: each set has its own terminals.
- * Capacities are irrelevant. `numbers` may be NULL if `size` is 0: then `length` becomes the length
- * of the answer.
+ * Capacities are irrelevant. To ask for the length of the answer alone, set `size` to 0: `numbers`
+ * may then be NULL.
  *
  * @return an `enum blossom_status`; BLOSSOM_INVALID_ARGUMENT for another kind, or with values
  */

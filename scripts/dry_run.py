@@ -1,27 +1,30 @@
 #!/usr/bin/env python3
-"""Plants a dummy kind in a copy of the repository, and prints the files of crates that it touches.
+"""Plants a dummy in a copy of the repository, and prints the files of crates that it touches.
 
 Usage: dry_run.py kind [--own-gadget] [--prove CRATE ..] [--keep FOLDER]
+       dry_run.py letter [--prove CRATE ..] [--keep FOLDER]
 
-The dummy answers as `bmatch` does; with --own-gadget its certificate graph has a form of its own,
-built as that of `bmatch`. The compiler names each table in code that lacks a row, one at a time;
-the script plants the row and compiles again. It then plants the rows of specs/ and proofs/, as
-copies of those of `bmatch`, and prints all files that it changed and their number. This takes
-about five minutes.
+kind    a kind that answers as `bmatch` does; with --own-gadget its certificate graph has a form of
+        its own, built as that of `bmatch`. The compiler names each table in code that lacks a row,
+        one at a time; the script plants the row and compiles again. It then plants the rows of
+        specs/ and proofs/, as copies of those of `bmatch`.
+letter  a line type of documents that has what `q` has, a set of vertices on one line. The compiler
+        names src/letter.rt, src/part.rt and src/document.rt of `doc_format`. The other files are
+        those of the list in docs/EXTENDING.md: the prover alone names them.
+
+At the end it prints all files that it changed and their number. This takes about five minutes.
 
 With --prove it has the prover check these crates of the copy, lowest first: `mb_problem` takes five
 minutes with the crates below it, `solve_answers` three quarters of an hour. If they are proved,
 nothing else in them lacks a row. No test of CI runs the script, since it takes over a minute."""
 import argparse
 import os
-import re
-import shutil
-import subprocess
 import sys
 import tempfile
 
-TOP = os.path.dirname(os.path.dirname(os.path.abspath(__file__)))
-ERROR = re.compile(r"^(\S+?\.rt):(\d+):\d+: error\[non-exhaustive-match\]", re.M)
+import dry_letter
+from planting import code_rows, copied, imported, prove
+
 # An enum, the variant whose rows are copied, and the dummy.
 KIND = "Kind", "BMatch", "Dummy"
 FORM = "GadgetForm", "Copies", "Dummied"
@@ -68,8 +71,6 @@ LIKE_BMATCH = """like_first Dummy = record {
 }
 """
 LIKE_ITSELF = "like_first Dummy = record { gadget = refl; answers = read_as_itself Dummy refl }\n"
-# Lines of a definition that aren't rows to copy.
-OTHER_LINES = "pub abbrev use record like_first first_with kind_text kind_number".split()
 # Chains of tests, each with one more at its end.
 CHAINS = [
     (
@@ -92,173 +93,76 @@ CHAINS = [
 ]
 
 
-def read(path):
-    with open(path, encoding="utf-8") as file:
-        return file.read()
+def plant_own(copy, ending):
+    for path, before, row in OWN_ROWS:
+        if path.endswith(ending):
+            copy.replace(f"mb_problem/{path}", before, before + row)
+    for path, old, new in CHAINS:
+        if path.endswith(ending):
+            copy.replace(f"mb_problem/{path}", old, new)
 
 
-def write(path, text):
-    with open(path, "w", encoding="utf-8") as file:
-        file.write(text)
+def plant_code(copy, enums):
+    while (path := copy.lacking()) is not None:
+        print("the compiler names", path, flush=True)
+        changes = [copy.change(path, lambda text: code_rows(text, *it)) for it in enums]
+        if not any(changes):
+            sys.exit(f"{path}: no row to copy")
 
 
-def code_rows(text, enum, variant, dummy):
-    """The code with an arm of the dummy for each of the variant's, but for names and numbers."""
-    name, other = f"{enum}::{variant}", f"{enum}::{dummy}"
-    arm = re.compile(r"^( *)%s => (?!b\"|\d)(?:.*,|\{\n(?:\1 .*\n)*\1\})\n" % name, re.M)
-    text = arm.sub(lambda it: it[0] + it[0].replace(name, other), text)
-    listed = r"(?<=\| )%s(?= *\n| =>| \|)|^( +)%s(?=\n +\|| \|)" % (name, name)
-    return re.sub(listed, lambda it: f"{it[0]} | {other}", text, flags=re.M)
+def plant_likeness(copy, own):
+    path = "mb_problem/proofs/KindLaws.antt"
+    before = "like_first Gallai"
+    copy.replace(path, before, (LIKE_ITSELF if own else LIKE_BMATCH) + before)
+    if own:
+        before = "first_with Unweighted"
+        copy.replace(path, before, "first_with Dummied = Dummy\n" + before)
 
 
-def is_row(clause, pattern):
-    """Whether a clause of a definition has the variant as a pattern."""
-    left = clause.split(" = ")[0]
-    if not clause[:1].isalpha() or " : " in left or clause.split(" ")[0] in OTHER_LINES:
-        return False
-    return pattern.search(left) is not None
+def plant_form(copy):
+    before = "    /// A port for each edge"
+    row = "    /// A dummy.\n    Dummied,\n"
+    copy.replace("mb_problem/src/gadget.rt", before, row + before)
 
 
-def clause_rows(text, variant, dummy):
-    """The definitions with a clause of the dummy for each of the variant's."""
-    pattern = re.compile(r"\b%s\b" % variant)
-    made, lines, place = [], text.split("\n"), 0
-    while place < len(lines):
-        end = place + 1
-        while end < len(lines) and re.match(r"[ }]", lines[end]):
-            end += 1
-        clause = lines[place:end]
-        made += clause
-        if is_row(clause[0], pattern):
-            made += [pattern.sub(dummy, line) for line in clause]
-        place = end
-    return "\n".join(made)
+def take_form(copy):
+    old, new = "Kind::Dummy => GadgetForm::Copies", "Kind::Dummy => GadgetForm::Dummied"
+    copy.replace("mb_problem/src/kind.rt", old, new)
+    old, new = "gadget_of Dummy = Copies", "gadget_of Dummy = Dummied"
+    path = "mb_problem/specs/Kinds.antt"
+    copy.replace(path, old, new)
+    copy.change(path, lambda text: imported(text, *FORM[1:]))
 
 
-def imported(text, variant, dummy):
-    """The imports with the dummy beside the variant."""
-    return re.sub(r"(TheVariants\.\{[^}]*\b%s\b)" % variant, r"\1, " + dummy, text)
-
-
-class Copy:
-    def __init__(self, top):
-        self.top, self.changed = top, []
-
-    def change(self, path, change):
-        full = os.path.join(self.top, "crates", path)
-        old = read(full)
-        new = change(old)
-        if new != old:
-            write(full, new)
-            if path not in self.changed:
-                self.changed.append(path)
-        return new != old
-
-    def replace(self, path, old, new):
-        self.change(path, lambda text: text.replace(old, new, 1))
-
-    def plant_own(self, ending):
-        for path, before, row in OWN_ROWS:
-            if path.endswith(ending):
-                self.replace(f"mb_problem/{path}", before, before + row)
-        for path, old, new in CHAINS:
-            if path.endswith(ending):
-                self.replace(f"mb_problem/{path}", old, new)
-
-    def lacking(self):
-        """The file that the compiler says lacks a row, if one does."""
-        done = subprocess.run(
-            ["rt", "try", "--", "--help"],
-            cwd=os.path.join(self.top, "crates", "blossom"),
-            stdout=subprocess.PIPE,
-            stderr=subprocess.STDOUT,
-            text=True,
-        )
-        found = ERROR.search(done.stdout)
-        if found:
-            return os.path.relpath(found[1], os.path.join(self.top, "crates"))
-        if "error[" in done.stdout:
-            sys.exit(done.stdout)
-        return None
-
-    def plant_code(self, enums):
-        while (path := self.lacking()) is not None:
-            print("the compiler names", path, flush=True)
-            changes = [self.change(path, lambda text: code_rows(text, *it)) for it in enums]
-            if not any(changes):
-                sys.exit(f"{path}: no row to copy")
-
-    def plant_clauses(self, folder, enums):
-        for root, _, names in os.walk(os.path.join(self.top, "crates", folder)):
-            for name in sorted(names):
-                path = os.path.relpath(os.path.join(root, name), os.path.join(self.top, "crates"))
-                for _, variant, dummy in enums if name.endswith(".antt") else ():
-                    if self.change(path, lambda text: clause_rows(text, variant, dummy)):
-                        self.change(path, lambda text: imported(text, variant, dummy))
-
-    def plant_likeness(self, own):
-        path = "mb_problem/proofs/KindLaws.antt"
-        before = "like_first Gallai"
-        self.replace(path, before, (LIKE_ITSELF if own else LIKE_BMATCH) + before)
-        if own:
-            before = "first_with Unweighted"
-            self.replace(path, before, "first_with Dummied = Dummy\n" + before)
-
-    def plant_form(self):
-        before = "    /// A port for each edge"
-        row = "    /// A dummy.\n    Dummied,\n"
-        self.replace("mb_problem/src/gadget.rt", before, row + before)
-
-    def take_form(self):
-        old, new = "Kind::Dummy => GadgetForm::Copies", "Kind::Dummy => GadgetForm::Dummied"
-        self.replace("mb_problem/src/kind.rt", old, new)
-        old, new = "gadget_of Dummy = Copies", "gadget_of Dummy = Dummied"
-        path = "mb_problem/specs/Kinds.antt"
-        self.replace(path, old, new)
-        self.change(path, lambda text: imported(text, *FORM[1:]))
-
-
-def copied(folder):
-    listed = ["git", "ls-files", "-z", "crates", "crates.txt", "HANDLES"]
-    for name in subprocess.check_output(listed, cwd=TOP, text=True).split("\0"):
-        source = os.path.join(TOP, name)
-        if name and os.path.exists(source):
-            target = os.path.join(folder, name)
-            os.makedirs(os.path.dirname(target), exist_ok=True)
-            shutil.copy(source, target)
-    return Copy(folder)
-
-
-def prove(copy, crates):
-    for crate in crates:
-        folder = os.path.join(copy.top, "crates", crate)
-        if subprocess.run(["rt", "check"], cwd=folder).returncode:
-            sys.exit(f"{crate}: not proved")
+def plant_kind(copy, own):
+    enums = [KIND, FORM] if own else [KIND]
+    plant_own(copy, "src/kind.rt")
+    if own:
+        plant_form(copy)
+    plant_code(copy, enums)
+    copy.change("mb_problem/src/feasibility.rt", lambda text: code_rows(text, *KIND))
+    plant_own(copy, ".antt")
+    for specs in ("mb_problem/specs", "mb_problem/proofs", "gadget_base/specs"):
+        copy.plant_clauses(specs, enums)
+    plant_likeness(copy, own)
+    if own:
+        take_form(copy)
 
 
 def run(words, folder):
     copy = copied(folder)
-    own = words.own_gadget
-    enums = [KIND, FORM] if own else [KIND]
-    copy.plant_own("src/kind.rt")
-    if own:
-        copy.plant_form()
-    copy.plant_code(enums)
-    copy.change("mb_problem/src/feasibility.rt", lambda text: code_rows(text, *KIND))
-    copy.plant_own(".antt")
-    for specs in ("mb_problem/specs", "mb_problem/proofs", "gadget_base/specs"):
-        copy.plant_clauses(specs, enums)
-    copy.plant_likeness(own)
-    if own:
-        copy.take_form()
-    prove(copy, words.prove)
+    if words.what == "kind":
+        plant_kind(copy, words.own_gadget)
+    else:
+        dry_letter.plant(copy)
     print("\n".join(copy.changed))
-    print(len(copy.changed), "files")
+    print(len(copy.changed), "files", flush=True)
+    prove(copy, words.prove)
 
 
 def main():
     parser = argparse.ArgumentParser(description=__doc__.split("\n")[0])
-    parser.add_argument("what", choices=["kind"])
+    parser.add_argument("what", choices=["kind", "letter"])
     parser.add_argument("--own-gadget", action="store_true", help="a form of certificate graph too")
     parser.add_argument("--prove", nargs="*", default=[], metavar="CRATE", help="crates to prove")
     parser.add_argument("--keep", metavar="FOLDER", help="make the copy there, and leave it")

@@ -1,5 +1,6 @@
-//! Tests of the check of joins: forests that prove a join, and for each of its tests forests that
-//! pass all others. It depends on `dimacs_read` and `join_check`, and has no call of its own.
+//! Tests of joins on single instances: `join_check` accepts forests that prove a join, and refuses
+//! those that pass all tests but one; `join_guess` guesses most joins of drawn instances, and these
+//! weigh as much as those that `least_joins` finds. It has no call of its own.
 #![tactic(auto)]
 
 #[cfg(test)]
