@@ -1,4 +1,4 @@
-/// Numbers drawn one after another, all of which the seed determines: a linear congruential
+/// Numbers drawn one after another, all of which the start determines: a linear congruential
 /// generator modulo 2^64 (Knuth, The Art of Computer Programming, volume 2, section 3.2.1).
 #[derive(Drop)]
 pub struct Draws {
@@ -6,10 +6,10 @@ pub struct Draws {
 }
 
 impl Draws {
-    /// Numbers from a seed. Seeds that are close to each other give different numbers.
-    pub fn new(seed: u32) -> Draws {
+    /// Numbers from a start. Starts that are close to each other give different numbers.
+    pub fn new(start: u32) -> Draws {
         let mut draws = Draws {
-            state: u64::from(seed),
+            state: u64::from(start),
         };
         draws.below(2);
         draws.below(2);

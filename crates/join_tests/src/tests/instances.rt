@@ -1,4 +1,4 @@
-//! Instances of T-joins that are drawn from a seed: grids and random sparse graphs.
+//! Instances of T-joins that are drawn from a start: grids and random sparse graphs.
 ghost use Rattle.std.specs.Prelude.{◌≡◌, ◌≤◌, None, IsTrue};
 ghost use Rattle.mb_problem.specs.Network.{IsInstanceEdge, vertices};
 
@@ -140,14 +140,14 @@ fn bare(rt: &impl Abort, alloc: Global, vertices: u32) -> Result<Instance, OutOf
     Instance::new(alloc, vertices, 0)
 }
 
-/// The instance of a family that a seed determines.
+/// The instance of a family that a start determines.
 pub fn drawn(
     rt: &impl Abort,
     alloc: Global,
     family: &Family,
-    seed: u32,
+    start: u32,
 ) -> Result<Instance, OutOfMemory> {
-    let mut draws = Draws::new(seed);
+    let mut draws = Draws::new(start);
     let mut instance = match family.shape {
         Shape::Grid(rows, columns) => bare(rt, alloc, rows.wrapping_mul(columns))?,
         Shape::Sparse(vertices, _) => bare(rt, alloc, vertices)?,
