@@ -7,7 +7,9 @@
 mod barrier;
 mod least;
 mod matched;
+mod numbers;
 
 pub use barrier::barrier_vertices;
 pub use least::least_join;
 pub use matched::matching;
+pub use numbers::numbers_of;
