@@ -4,7 +4,6 @@ use Rattle.mb_problem.proofs.Common.{eqb-true, any-filter_same, filter, range_wi
 use Rattle.mb_problem.proofs.Common.{mul-le-mul_left, crossings, crosses, holds, degree, Multigraph, IsEdgeWithin, edge_at, edge_at-within, Edge}
 use Rattle.graph_theory.proofs.Common.{ap₂, degrees_in_set}
 use Rattle.join_check.proofs.Parted.{parts, parted}
-use Rattle.graph_theory.proofs.Edges.{times-cond_one}
 
 -- the vertices that lie above level s
 abbrev pub level : ℕ → (ℕ → ℕ) → ℕ → List ℕ
@@ -22,6 +21,10 @@ level-holds n f s v low high =
 level-crosses : (n : ℕ) (f : ℕ → ℕ) (s : ℕ) (e : Edge) → IsEdgeWithin n e → crosses (level n f s) e ≡ parts (f e.u) (f e.v) s
 level-crosses n f s e within = ap₂ (λ (p q : Bool). cond p (not q) q) (level-holds n f s e.u within.u_low within.u_high) (level-holds n f s e.v within.v_low within.v_high)
 
+times-one : (t : Bool) (c : ℕ) → c * cond t 1 0 ≡ cond t c 0
+times-one true c = omega arith
+times-one false c = omega arith
+
 -- what counted edges cross, level by level
 pub level-sums : (g : Multigraph) (counts : List ℕ) (f : ℕ → ℕ) (p : ℕ) → All (IsEdgeWithin g.vertices) g.edges
     → sum_to (λ k. slice_index counts k * parted (f (edge_at g k).u) (f (edge_at g k).v) p) (length g.edges) ≡ sum_to (λ s. crossings g counts (level g.vertices f s)) p
@@ -31,7 +34,7 @@ level-sums g counts f p ends =
     let term : ℕ → ℕ → ℕ = λ k s. cond (cross k s) (slice_index counts k) 0 in
     let spread = sum_to-same (λ k. slice_index counts k * sum_to (λ s. cond (cross k s) 1 0) p) (λ k. sum_to (term k) p) m
     (λ k b. times-sum_to (slice_index counts k) (λ s. cond (cross k s) 1 0) p
-    ∙ sum_to-same (λ s. slice_index counts k * cond (cross k s) 1 0) (term k) p (λ s b'. times-cond_one (cross k s) (slice_index counts k))) in
+    ∙ sum_to-same (λ s. slice_index counts k * cond (cross k s) 1 0) (term k) p (λ s b'. times-one (cross k s) (slice_index counts k))) in
     let gathered = sum_to-same (λ s. sum_to (λ k. term k s) m) (λ s. crossings g counts (level g.vertices f s)) p
     (λ s b. sum_to-same (λ k. term k s) (λ k. cond (crosses (level g.vertices f s) (edge_at g k)) (slice_index counts k) 0) m
     (λ k b'. ap (λ (t : Bool). cond t (slice_index counts k) 0) (sym (level-crosses g.vertices f s (edge_at g k) (edge_at-within g k ends b'))))) in

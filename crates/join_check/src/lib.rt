@@ -19,4 +19,5 @@ mod wide;
 
 pub use law::laws;
 pub use levels::Levels;
+pub use paid::weight_of;
 pub use proved::is_proved;

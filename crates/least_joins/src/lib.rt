@@ -5,11 +5,11 @@
 #![tactic(auto)]
 
 mod barrier;
+mod edge_numbers;
 mod least;
 mod matched;
-mod numbers;
 
 pub use barrier::barrier_vertices;
+pub use edge_numbers::numbers_of;
 pub use least::least_join;
 pub use matched::matching;
-pub use numbers::numbers_of;
