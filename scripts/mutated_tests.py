@@ -80,7 +80,7 @@ PAGES = (
 )
 CLAUSES = (
     "clause_tools.clauses clause_tools.public clause_tools.uncited clause_tools.revisions"
-    " clause_tools.equal"
+    " clause_tools.equal clause_tools.equal_bodies"
 )
 RELEASES = (
     "release.contents release.shipped_pages release.same_bytes release.binaries release.stamps"
@@ -95,7 +95,7 @@ OF_SCRIPTS = (
     ("dist_program", "dist_program.clone dist.stand_in"),
     ("docs figures kinds prose proof_names promises must_fail_page crate_groups", PAGES),
     ("crate_pages gallery_page header_page proof_page python_page wrong_bodies_page", PAGES),
-    ("compare_clauses uncited_definitions equal_statements", CLAUSES),
+    ("compare_clauses uncited_definitions equal_statements equal_bodies", CLAUSES),
     ("uncited_definitions", PAGES + " release.shipped_pages"),
     ("pictures", "python.test_package"),
     ("release blossom_verify debian_package", RELEASES),

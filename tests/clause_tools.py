@@ -1,6 +1,6 @@
 """Tests of the scripts that read clauses and proofs: in a small made repository they find which
 calls, clauses and definitions went or changed, what is explained, which definitions no clause
-cites, and which statements stand twice."""
+cites, and which statements and bodies stand twice."""
 import os
 import subprocess
 import sys
@@ -124,6 +124,117 @@ a/proofs/One.antt:wide; a/proofs/inner/Two.antt:less
       {§0 §1 : ℕ} → §0 < §1 → §0 ≤ §1
 3 statements, 4 spare copies
 """
+#: Files of sources and definitions, and what is said of the bodies in them.
+BODIES = (
+    (
+        "a/src/one.rt",
+        """/// Adds up.
+pub fn total(items: &[u32]) -> u32
+    requires small { All (λ x. x < 9) items.now }
+    ensures { result ≡ sum items.now }
+{
+    let mut sum = 0; // of none
+    for item in items {
+        sum += item.size(item);
+    }
+    sum
+}
+
+fn short(x: u32) -> char {
+    x.add('}')
+}
+""",
+    ),
+    (
+        "b/src/two.rt",
+        """trait Adds {
+    fn all(&self) -> u32;
+}
+
+impl Adds for Some {
+    fn all(&self, size: &[u32]) -> u32
+        ensures other { result ≡ 1 }
+    {
+        let mut n = 0;
+
+        for each in size {
+            n += each.size(each);
+        }
+        n
+    }
+
+    fn weighs(size: &[u32]) -> u32 {
+        let mut n = 0;
+        for each in size {
+            n += each.weight(each);
+        }
+        n
+    }
+}
+""",
+    ),
+    (
+        "b/specs/Two.antt",
+        """use Rattle.a.specs.One.{few}
+
+pub record IsIn (n : ℕ) (a : A) : Type 0 where
+  pub low : few n ≤ a.n
+  -- and the other end
+  pub high : a.n ≤ n
+  pub size : n < 9
+
+abbrev pub short : ℕ → ℕ
+short n = n
+""",
+    ),
+    (
+        "b/proofs/Two.antt",
+        """abbrev sums : (ℕ → ℕ) → List ℕ → ℕ
+sums f [] = 0
+sums f (x ∷ xs) =
+    f x + sums f xs
+
+added : (n : ℕ) → n ≡ n
+added n =
+  let m = n in
+    refl
+""",
+    ),
+    (
+        "c/proofs/Three.antt",
+        """use Rattle.a.specs.One.{few, other}
+
+abbrev pub total :
+    (ℕ → ℕ) → List ℕ → ℕ
+total g [] = 0
+total g (y ∷ ys) =
+    g y + total g ys
+
+pub record Within (k : ℕ) (b : A) : Type 0 where
+  pub low : few k ≤ b.n
+  pub high : b.n ≤ k
+  pub size : k < 9
+
+record Beyond (k : ℕ) (b : A) : Type 0 where
+  pub low : other k ≤ b.n
+  pub high : b.n ≤ k
+  pub size : k < 9
+
+less : (n : ℕ) → n ≤ n
+less n =
+  let m = n in
+    refl
+""",
+    ),
+)
+EQUAL_BODIES = """a/src/one.rt:total; b/src/two.rt:all
+      5 lines: let §0 §1 = 0 ; for §2 in §3 { §1 + = §2 . size ( §2 ) ; } §1
+b/proofs/Two.antt:sums; c/proofs/Three.antt:total
+      3 lines: § §0 [ ] = 0 § §0 ( §1 ∷ §2 ) = §0 §1 + § §0 §2
+b/specs/Two.antt:IsIn; c/proofs/Three.antt:Within
+      3 lines: pub low : few §0 ≤ §1 . n pub high : §1 . n ≤ §0 pub size : §0 < 9
+3 bodies, 3 spare copies
+"""
 
 
 def laid_out(folder, old="", new=""):
@@ -214,13 +325,18 @@ def uncited(tests):
         tests.compare("the same, of all", "", [short[0], short[3]], alone.splitlines())
 
 
+def lay_crates(room, files):
+    """Lays these files into the crates of a folder."""
+    for path, text in files:
+        path = os.path.join(room, "crates", path)
+        os.makedirs(os.path.dirname(path), exist_ok=True)
+        with open(path, "w", encoding="utf-8") as file:
+            file.write(text)
+
+
 def equal(tests):
     with tempfile.TemporaryDirectory() as room:
-        for path, text in PROOFS:
-            path = os.path.join(room, "crates", path)
-            os.makedirs(os.path.dirname(path), exist_ok=True)
-            with open(path, "w", encoding="utf-8") as file:
-                file.write(text)
+        lay_crates(room, PROOFS)
         words = [sys.executable, os.path.join(SCRIPTS, "equal_statements.py"), room]
         done = subprocess.run(words, capture_output=True, text=True)
         tests.compare("statements that stand twice", "", EQUAL, done.stdout)
@@ -228,6 +344,17 @@ def equal(tests):
         tests.compare("the same, of this folder", "", EQUAL, done.stdout)
 
 
+def equal_bodies(tests):
+    with tempfile.TemporaryDirectory() as room:
+        lay_crates(room, BODIES)
+        words = [sys.executable, os.path.join(SCRIPTS, "equal_bodies.py"), room]
+        done = subprocess.run(words, capture_output=True, text=True)
+        tests.compare("bodies that stand twice", "", EQUAL_BODIES, done.stdout)
+        done = subprocess.run([*words, "--lines", "4"], capture_output=True, text=True)
+        long = [*EQUAL_BODIES.splitlines()[:2], "1 bodies, 1 spare copies"]
+        tests.compare("the same, of four lines", "", long, done.stdout.splitlines())
+
+
 def check(tests):
-    for part in (clauses, revisions, public, uncited, equal):
+    for part in (clauses, revisions, public, uncited, equal, equal_bodies):
         part(tests)

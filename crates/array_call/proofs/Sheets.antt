@@ -2,10 +2,8 @@
 use Rattle.certificates.proofs.Common.{◌≡◌, ℕ, ◌≤◌, ℤ, pos, ◌≤ℤ◌, Bool, true, List, [], length, map, All, Option, None, Some, refl, sym, ap, subst, arith, list_all, ints}
 use Rattle.certificates.proofs.Common.{and_from, All-weaker, All-map, All-nil, Kind, AnswerForm, form_of, proof_of, are_duals, asks_conservative, Optimal, NonConservative, CountLine}
 use Rattle.certificates.proofs.Common.{WalkLine, DualLine, SetLine, Part, blank, at_most_one, has_any, is_counts, is_walk, is_formed, admits, AscendsBy, IsDocument, all_joined, all_mapped}
-use Rattle.certificates.proofs.Common.{IsCountWithin, ◌∙◌, passing, passing-range, passing-ascends}
-use Rattle.doc_format.specs.Form.{ascends}
+use Rattle.certificates.proofs.Common.{IsCountWithin, passing, passing-range}
 use Rattle.document_lines.specs.Lines.{is_used, line_at}
-use Rattle.document_lines.proofs.Ascents.{ascends-pos, map-map}
 use Rattle.solve_kinds.proofs.Forms.{dual-taken, set-taken, ordered-four}
 use Rattle.certificates.proofs.Common.{Document, counts_of}
 use Rattle.array_call.specs.Layout.{answer_numbers}
@@ -14,15 +12,9 @@ use Rattle.array_call.specs.Sheets.{IsCountOn, HasEdges, HasItems, AreIn, IsAnsw
 use Rattle.array_call.proofs.SetItems.{sets-formed}
 use Rattle.mb_problem.specs.declared.kind.AnswerForm.TheVariants as form
 use Rattle.doc_format.specs.declared.part.Part.TheVariants as part
+use Rattle.document_lines.proofs.CountLines.{lines_to}
 
 -- ---- counts
-
--- the lines of the edges up to number k
-abbrev pub lines_to : List ℕ → ℕ → List CountLine
-lines_to cs k = map (line_at cs) (passing (is_used cs) k)
-
-pub lines-ascend : (cs : List ℕ) (m : ℕ) → AscendsBy (λ x. x.edge) (lines_to cs m)
-lines-ascend cs m = ap ascends (map-map (λ (x : CountLine). x.edge) (line_at cs) (passing (is_used cs) m)) ∙ ascends-pos (passing (is_used cs) m) (passing-ascends (is_used cs) m)
 
 pub on-edges : (m : ℕ) (x : CountLine) → IsCountWithin m x → IsCountOn m x
 on-edges m x h = (h.0, (let low : pos 1 ≤ℤ x.count = h.1.low in omega (arith, ints, low)))

@@ -10,6 +10,7 @@ use Rattle.alt_forest.proofs.Common.{put_other, up_or_root, path_root, root_self
 use Rattle.alt_forest.specs.declared.search.Search.{Search}
 use Rattle.alt_forest.specs.declared.grandparent.GrandparentLink.{GrandparentLink}
 use Rattle.augment.specs.Turns.{HasMates, with_mates, IsLoose, CanClimb, IsClimbed}
+use Rattle.search_heap.proofs.Homes.{some_home}
 
 -- other mates, as many as before, leave the shape
 pub shape_mated : (f t : Search) → HasShape f → t ≡ record f { mates = t.mates } → vec_len t.mates ≡ vec_len f.mates → HasShape t
@@ -28,10 +29,6 @@ moved s m n a f b w same = record { edge = w.edge; joins = w.joins; different = 
 
 pub moved_first : (s : State) (n : ℕ → Option ℕ) (a f b : ℕ) → IsMate s a f b → n b ≡ s.mate b → IsMate (with_mates s n) a f b
 moved_first s n a f b w same = record { edge = w.edge; joins = w.joins; different = w.different; tight = w.tight; outermost = w.outermost; back = same ∙ w.back }
-
-pub entry_of : (o : Option ℕ) → is_some o ≡ true → (f : ℕ) × (o ≡ Some f)
-entry_of None has = absurd (both_ways false refl has)
-entry_of (Some f) has = (f, refl)
 
 -- who has a mate stays the same where one that has takes another
 pub seen_put : (m : ℕ → Option ℕ) (a x c : ℕ) → is_some (m a) ≡ true → is_some (put m a (Some x) c) ≡ is_some (m c)
@@ -218,7 +215,7 @@ module _ (t : State) (e start : ℕ) (h : CanClimb t e start) where
 
     above : is_some (m node) ≡ true → (k : GrandparentLink) × IsGrandparentLink h.was h.depth node k
     above has =
-        let some = entry_of (m node) has in
+        let some = some_home (m node) has in
         hop_above h.was h.depth node some.0 h.state v.loose.high_is v.loose.high_outer (sym same ∙ some.1)
 
     pub can_hop : is_some (m node) ≡ true → HasGrandparentLink (with_mates t m) node

@@ -1,6 +1,6 @@
 -- What a search is once the ways between two roots are flipped and their two trees are felled.
 use Rattle.alt_forest.proofs.Common.{nat_tests, ◌≡◌, ◌≢◌, ◌⊎◌, ℕ, true, false, not, cond, Option, Some, sym, ap, ◌∙◌, subst, ⊎_elim, inl, inr, arith, rules}
-use Rattle.alt_forest.proofs.Common.{is_some, both_ways, and_parts, and_from, false_from_ne_true, holds, IsNested, is_outermost, outermost, Label, Out, State, IsOutermost, node_u, node_v}
+use Rattle.alt_forest.proofs.Common.{both_ways, and_parts, and_from, false_from_ne_true, holds, IsNested, is_outermost, outermost, Label, Out, State, IsOutermost, node_u, node_v}
 use Rattle.alt_forest.proofs.Common.{is_label, root_of, CanAugment, IsSound, state_of, label_at, edge_in, AreMoving, tree_id_at, IsTreeId, HasTreeNodes, joins_turned, nested_of}
 use Rattle.alt_forest.proofs.Common.{outer_not_out}
 use Rattle.alt_forest.proofs.Common.{ways_lead}
@@ -11,6 +11,7 @@ use Rattle.augment.specs.Felling.{stands, is_either, falls, AreSeeded, IsFelled}
 use Rattle.augment.specs.Exchange.{IsExchanged}
 use Rattle.augment.proofs.Removed.{IsCut, with_both, away_of, roots_stay}
 use Rattle.augment.proofs.Uprooted.{off_way}
+use Rattle.search_heap.proofs.Homes.{some_home}
 
 -- the trees of two nodes have these two tree ids
 pub record AreTreeIds (s : Search) (near far one other : ℕ) : Type 0 where
@@ -18,9 +19,6 @@ pub record AreTreeIds (s : Search) (near far one other : ℕ) : Type 0 where
   pub one_tree_id : IsTreeId (state_of s) near one
   pub other_kept : tree_id_at s.tree_nodes.tree_ids far ≡ Some other
   pub other_tree_id : IsTreeId (state_of s) far other
-
-has_one : (o : Option ℕ) → is_some o ≡ true → (k : ℕ) × (o ≡ Some k)
-has_one o some = grind arith
 
 -- a label is out or isn't
 pub out_or_not : (k : Label) → (k ≡ Out) ⊎ (k ≢ Out)
@@ -155,7 +153,7 @@ module _ (s t : Search) (sound : IsSound s) (tree_nodes : HasTreeNodes s) (e nea
       let free = elsewhere a (away_of x sound.depth nested sound.state m l one other removed a a_is in_it) in
       let stood = and_from (is_outermost s.graph.vertices s.arena.blossoms a) (not (is_label (label_at s.labels.items a) Out)) a_is
       (passes_out (label_at s.labels.items a) (λ q. in_it (same_label a free ∙ q))) in
-      let some : (k : ℕ) × (tree_id_at t.tree_nodes.tree_ids a ≡ Some k) = has_one (tree_id_at t.tree_nodes.tree_ids a) (felled.all a stood free) in
+      let some : (k : ℕ) × (tree_id_at t.tree_nodes.tree_ids a ≡ Some k) = some_home (tree_id_at t.tree_nodes.tree_ids a) (felled.all a stood free) in
       some.1 ∙ sym (felled.tree_ids a some.0 some.1)
 
   was_in : (a : ℕ) → IsOutermost x a → l a ≢ Out → label_at s.labels.items a ≢ Out

@@ -1,7 +1,7 @@
 -- Nodes that hold a vertex, marked one by one; and nodes within others, cleared one by one.
-use Rattle.alt_forest.proofs.Common.{nat_tests, ◌≡◌, ◌≢◌, ◌⊎◌, ℕ, ◌+◌, ◌<◌, true, false, cond, List, [], ◌∷◌, refl, ap, ◌∙◌, arith, Option, Some}
-use Rattle.alt_forest.proofs.Common.{None, All, AllByRecursion, Multigraph, IsEdgeWithin, IsEdgeNumber, edge_of, most_blossoms, Blossom, is_vertex, is_node, is_child, chain_of, IsNested}
-use Rattle.alt_forest.proofs.Common.{each_from, child_is_node, node_range, chain_node, chain_nonzero, put, put_here, put_other, u_vertex, v_vertex}
+use Rattle.alt_forest.proofs.Common.{nat_tests, ◌≡◌, ◌≢◌, ◌⊎◌, ℕ, true, false, cond, List, [], ◌∷◌, refl, ap, ◌∙◌, arith, Option, Some}
+use Rattle.alt_forest.proofs.Common.{None, All, AllByRecursion, Multigraph, IsEdgeWithin, IsEdgeNumber, edge_of, Blossom, is_node, is_child, chain_of, IsNested}
+use Rattle.alt_forest.proofs.Common.{child_is_node, chain_nonzero, put, put_here, put_other, u_vertex, v_vertex}
 use Rattle.augment.specs.Opening.{marked, up_to, spread, spread_in}
 
 up_to_past : (c : ℕ) (cs : List ℕ) (stop : ℕ) → c ≢ stop → up_to (c ∷ cs) stop ≡ c ∷ up_to cs stop
@@ -10,9 +10,6 @@ up_to_past c cs stop ne = grind (arith, nat_tests)
 pub mark_step : (m n : ℕ → Option ℕ) (c : ℕ) (it cs : List ℕ) (stop e : ℕ) (target : ℕ → Option ℕ) → it ≡ c ∷ cs → c ≢ stop → n ≡ put m c (Some e)
     → marked m (up_to it stop) e ≡ target → marked n (up_to cs stop) e ≡ target
 mark_step m n c it cs stop e target step ne is h = grind (arith, up_to_past c cs stop ne)
-
-pub chain_places : (n k : ℕ) (bs : List Blossom) (v : ℕ) → IsNested n bs → is_vertex n v ≡ true → n + most_blossoms n < k → AllByRecursion (λ c. c < k) (chain_of bs v)
-chain_places n k bs v h iv low = each_from (λ c. c < k) (chain_of bs v) (λ x e. omega (arith, low, (node_range n bs x h (chain_node n bs v x iv e)).1))
 
 up_to_none : (cs : List ℕ) (stop : ℕ) → AllByRecursion (λ c. c ≢ stop) cs → up_to cs stop ≡ cs
 up_to_none [] stop h = refl

@@ -9,7 +9,8 @@ use Rattle.alt_forest.proofs.Common.{path_up}
 use Rattle.alt_forest.proofs.Common.{root_self, root_up, deeper_differs}
 use Rattle.alt_forest.specs.declared.grandparent.GrandparentLink.{GrandparentLink}
 use Rattle.augment.specs.Turns.{JoinsTwoTrees, IsLoose, IsClimbed, IsUprooted, IsTurned}
-use Rattle.augment.proofs.Climbing.{entry_of, moved, moved_first, seen_put}
+use Rattle.augment.proofs.Climbing.{moved, moved_first, seen_put}
+use Rattle.search_heap.proofs.Homes.{some_home}
 
 module _ (s : State) (depth : ℕ → ℕ) (nested : IsNested s.graph.vertices s.blossoms) (st : IsSearchState s depth) where
   -- a node on the way from another one is of its tree
@@ -49,7 +50,7 @@ module _ (s : State) (depth : ℕ → ℕ) (nested : IsNested s.graph.vertices s
   -- an outer node with a mate has a grandparent link, and what is read there is that one
   hop_there : (far : ℕ) → IsOutermost s far → s.label far ≡ Outer → is_some (s.mate far) ≡ true → (k : GrandparentLink) × IsGrandparentLink s depth far k
   hop_there far is lab has =
-      let some = entry_of (s.mate far) has in
+      let some = some_home (s.mate far) has in
       hop_above s depth far some.0 st is lab some.1
 
   pub some_hop : (far : ℕ) → IsOutermost s far → s.label far ≡ Outer → is_some (s.mate far) ≡ true → HasGrandparentLink s far

@@ -1,6 +1,6 @@
 ghost use Rattle.std.specs.Prelude.{◌≡◌, ◌≤◌, ◌+◌, ℕ, length, All, IfOk, OnOk};
 ghost use Rattle.graph_theory.specs.Graph.{HasNoLoop, IsEdgeNumber, IsGraph};
-ghost use Rattle.bottleneck.specs.Halving.{AreLight, chosen, numbers_in};
+ghost use Rattle.bottleneck.specs.Halving.{AreLight, chosen};
 
 use mb_base::{EdgeId, OutOfMemory};
 use std::alloc::Global;
@@ -52,20 +52,4 @@ pub fn chosen_graph(alloc: Global, graph: &Graph, numbers: &[EdgeId]) -> Result<
         part.add(u, v, 0)?;
     }
     Ok(part)
-}
-
-/// Edges that are given by their places among these, by their numbers.
-pub fn numbers_of(
-    alloc: Global,
-    numbers: &[EdgeId],
-    edges: &[EdgeId],
-) -> Result<Vec<EdgeId>, OutOfMemory>
-    requires edges { All (λ e. (1 ≤ e) × (e ≤ length numbers.now)) edges.now }
-    ensures { IfOk result (λ v. v.items ≡ numbers_in numbers.now edges.now) }
-{
-    let mut all = Vec::with_capacity(alloc, edges.len())?;
-    for edge in edges {
-        all.push(numbers[edge.number() as usize - 1])?;
-    }
-    Ok(all)
 }

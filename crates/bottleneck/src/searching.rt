@@ -5,9 +5,9 @@ ghost use Rattle.mwpm_engine.specs.Solutions.{Ends, most_steps, size_of_graph};
 ghost use Rattle.mwpm_engine.specs.declared.outcome.Outcome.TheVariants.{Matched};
 ghost use Rattle.bottleneck.specs.Halving.{IsFound, chosen};
 
-use crate::choosing::{chosen_graph, numbers_of};
+use crate::choosing::chosen_graph;
 use crate::range::Found;
-use least_joins::{barrier_vertices, matching};
+use least_joins::{barrier_vertices, matching, numbers_of};
 use mb_base::{EdgeId, OutOfMemory, Steps};
 use mwpm_engine::{Engine, Outcome};
 use std::alloc::Global;

@@ -11,6 +11,7 @@ use Rattle.document_lines.proofs.LastHolders.{has, AreInnerFirst, inner-first, l
 use Rattle.document_lines.proofs.NamedSets.{NameSets, loose-has, loose-from, members-named, references-earlier, reference-has, reference-from, reference-inside, reference-last}
 use Rattle.document_lines.proofs.NamedSets.{reference-free}
 use Rattle.document_lines.proofs.SetSizes.{size-odd}
+use Rattle.graph_theory.proofs.BlockSums.{sum_to-cond}
 
 -- the line of number j + 1 is named, and v is in its set
 abbrev pub in_named : List DualSet → OddSet → ℕ → ℕ → ℕ
@@ -118,10 +119,6 @@ items-apart sets O k v inner names b =
 
 -- ---- an odd number of items, and three at least
 
-if_named : (t : Bool) (f : ℕ → ℕ) (n : ℕ) → sum_to (λ i. cond t (f i) 0) n ≡ cond t (sum_to f n) 0
-if_named true f n = refl
-if_named false f n = sum_to-zero n
-
 same_parity : (t : Bool) (c : ℕ) → c % 2 ≡ 1 → cond t c 0 % 2 ≡ one_if t % 2
 same_parity true c odd = omega (arith, odd)
 same_parity false c odd = refl
@@ -139,7 +136,7 @@ size-is n sets k s inner b names =
     (λ i c. sym (one-item sets k s (i + 1) inner b names)) in
     let both = sum_to-add (λ i. one_if (holds s.vertices (i + 1))) (λ i. sum_to (in_named sets s (i + 1)) N) n in
     let turned = sum_to-swap (λ i j. in_named sets s (i + 1) j) n N in
-    let each = sum_to-same (λ j. sum_to (λ i. in_named sets s (i + 1) j) n) (size_named n sets s) N (λ j c. if_named (holds s.references (j + 1)) (λ i. one_if (has sets j (i + 1))) n) in
+    let each = sum_to-same (λ j. sum_to (λ i. in_named sets s (i + 1) j) n) (size_named n sets s) N (λ j c. sum_to-cond (holds s.references (j + 1)) (λ i. one_if (has sets j (i + 1))) n) in
     omega (arith, split, both, turned, each)
 
 pub vertices-within : (n : ℕ) (sets : List DualSet) (k : ℕ) (s : OddSet) → ((v : ℕ) → has sets k v ≡ true → (1 ≤ v) × (v ≤ n)) → NamesSet sets k s

@@ -1,10 +1,10 @@
 pub mod Ascents
-mod CountLines
+pub mod CountLines
 pub mod DualLines
 mod GatherSteps
 mod ItemForms
 mod LastHolders
-mod LineItems
+pub mod LineItems
 pub mod LinesOf
 pub mod Listing
 mod MappedLists

@@ -10,13 +10,13 @@ ghost use Rattle.mwpm_engine.specs.Solutions.{Ends, matching_of, most_steps, siz
 ghost use Rattle.gallai.specs.Decompositions.{ArePathsFrom, IsDecomposition, link_numbers};
 ghost use Rattle.gallai.specs.Finders.{Finds};
 
-use crate::edge_numbers::{link_numbers, numbers_of};
+use crate::edge_numbers::link_numbers;
 use crate::finding::{Finder, finder_of, tested_path};
 use crate::found::Decomposition;
 use crate::reading::{greatest_matching, outer_vertices};
 use gadget_base::unweighted;
 use gallai_theory::laws;
-use least_joins::{barrier_vertices, matching};
+use least_joins::{barrier_vertices, matching, numbers_of};
 use mb_base::{EdgeId, OutOfMemory, Sequence, Steps, VertexId};
 use mb_problem::{EDGE_LIMIT, Instance};
 use mwpm_engine::{Engine, Outcome};

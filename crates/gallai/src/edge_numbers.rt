@@ -1,5 +1,4 @@
-ghost use Rattle.std.specs.Prelude.{◌≡◌, ◌-◌, ◌≤◌, [], ◌∷◌, ◌++◌, length, map, All};
-ghost use Rattle.std.specs.Prelude.{slice_index, if◌then◌else◌, IfOk, OnOk};
+ghost use Rattle.std.specs.Prelude.{◌≡◌, ◌-◌, [], ◌∷◌, ◌++◌, if◌then◌else◌, IfOk, OnOk};
 ghost use Rattle.graph_theory.specs.Graph.{IsEdgeNumber};
 ghost use Rattle.mb_problem.specs.Network.{graph_of};
 ghost use Rattle.mb_problem.specs.Size.{is_loop_at};
@@ -36,20 +35,4 @@ pub fn link_numbers(alloc: Global, instance: &Instance) -> Result<Vec<EdgeId>, O
         push_link(&mut numbers, instance, EdgeId::new(place + 1))?;
     }
     Ok(numbers)
-}
-
-/// Edges that are given by their places among these, by their numbers.
-pub fn numbers_of(
-    alloc: Global,
-    numbers: &[EdgeId],
-    edges: &[EdgeId],
-) -> Result<Vec<EdgeId>, OutOfMemory>
-    requires edges { All (λ e. (1 ≤ e) × (e ≤ length numbers.now)) edges.now }
-    ensures { IfOk result (λ v. v.items ≡ map (λ e. slice_index numbers.now (e - 1)) edges.now) }
-{
-    let mut all = Vec::with_capacity(alloc, edges.len())?;
-    for edge in edges {
-        all.push(numbers[edge.number() as usize - 1])?;
-    }
-    Ok(all)
 }

@@ -1,14 +1,14 @@
 -- What the passes of a check find, put together: a list of edges is a join, and none weighs less.
 use Rattle.mb_problem.proofs.Common.{◌≡◌, ℕ, ◌+◌, ◌-◌, ◌%◌, ◌<◌, ◌≤◌, ℤ, Bool, false, eqb, ap, sym, ◌∙◌, subst, arith, List, length, slice_index, slice_index_or, All, IsStrictlyIncreasing}
 use Rattle.mb_problem.proofs.Common.{get_or_default, degree, edge_at, edge_at-within, Network, IsNetwork, graph_of, vertices, odd_at, edges-count, network-graph, ListsJoin}
-use Rattle.mb_problem.proofs.Common.{listed_counts, listed-length}
+use Rattle.mb_problem.proofs.Common.{listed_counts, listed-length, listed-at, test-small, holds}
 use Rattle.mb_problem.specs.declared.answer.Parity.{Parity}
 use Rattle.mb_problem.specs.Degrees.{AreDegrees}
 use Rattle.join_check.specs.declared.levels.Levels.{Levels}
 use Rattle.join_check.specs.Forests.{turned_ends, IsPaid, meet_at}
 use Rattle.join_check.specs.Least.{IsLeastJoin}
 use Rattle.join_check.specs.Checks.{at, AreFlags, ArePlaced, AreWide, AreTops, AreDepths, IsWideBy, HasPlace, HasShape, HoldOdd, IsSmallForest}
-use Rattle.join_check.proofs.Listed.{listed-small}
+use Rattle.join_check.proofs.Listed.{in-graph}
 use Rattle.join_check.proofs.LevelFacts.{forest-of, placed-of, odd-of, wide-of}
 use Rattle.join_check.proofs.Leasts.{least-join}
 
@@ -19,11 +19,11 @@ join-of i odd es ds odds m ascending range count are have each =
     let few : ℕ → Type 0 = λ x. x ≤ 1 in
     record {
       ascending = ascending;
-      in_range = λ k d b. (let is = range k d b in (is.0, omega (arith, is.1, count, edges-count i)));
+      in_range = in-graph i es m count range;
       join = record {
         one_each = listed-length es (length i.edges);
         at_most_once = λ k d b. subst few (get_or_default (listed_counts es (length i.edges)) k 0 d b)
-            (listed-small es (length i.edges) k (omega (arith, b, listed-length es (length i.edges))));
+            (let is = listed-at es (length i.edges) k 0 (omega (arith, b, listed-length es (length i.edges))) in omega (arith, is, test-small (holds es (k + 1))));
         degrees = λ v low high.
             let back : v - 1 + 1 ≡ v = omega (arith, low) in
             let below : v - 1 < vertices i = omega (arith, low, high) in

@@ -1,14 +1,14 @@
 -- How many odd vertices have a node, one before it, or one that a node holds.
-use Rattle.mb_problem.proofs.Common.{◌≡◌, ℕ, ◌+◌, ◌<◌, ◌≤◌, Bool, true, false, ◌&&◌, cond, eqb, ltb, leb, refl, ◌∙◌, inl, inr, arith, List, length, slice_index, slice_index_or}
+use Rattle.mb_problem.proofs.Common.{◌≡◌, ℕ, ◌+◌, ◌<◌, ◌≤◌, Bool, true, false, ◌&&◌, cond, eqb, ltb, leb, refl, ◌∙◌, inl, inr, arith, List, length, slice_index, slice_index_or, test-small}
 use Rattle.mb_problem.proofs.Common.{cases_eq, cases_lt, cond-true, cond-false, and_left, and_right, and_from, eq-eqb, ne_eqb, lt-ltb, le-ltb, le-leb, sum_to-same, sum_to-both, sum_to-zero}
 use Rattle.mb_problem.proofs.Common.{sum_to-most}
 use Rattle.std.proofs.lemmas.Bool.{lt-leb}
 use Rattle.join_check.specs.Checks.{held_at, held_before, held_by, held_in}
 
-one-on : (t : Bool) → t ≡ true → cond {A = ℕ} t 1 0 ≡ 1
+pub one-on : (t : Bool) → t ≡ true → cond {A = ℕ} t 1 0 ≡ 1
 one-on t h = cond-true {A = ℕ} t 1 0 h
 
-one-off : (t : Bool) → t ≡ false → cond {A = ℕ} t 1 0 ≡ 0
+pub one-off : (t : Bool) → t ≡ false → cond {A = ℕ} t 1 0 ≡ 0
 one-off t h = cond-false {A = ℕ} t 1 0 h
 
 next-tests : (o : Bool) (n x : ℕ) → cond {A = ℕ} (o && ltb n (x + 1)) 1 0 ≡ cond (o && ltb n x) 1 0 + cond (o && eqb n x) 1 0
@@ -34,20 +34,16 @@ held-first flags nodes n =
     (omega arith))))
     ∙ sum_to-zero n
 
-one-most : (t : Bool) → cond {A = ℕ} t 1 0 ≤ 1
-one-most true = omega arith
-one-most false = omega arith
-
 pub held-most : (flags : List Bool) (nodes : List ℕ) (x n : ℕ) → held_before flags nodes x n ≤ n
 held-most flags nodes x n =
     let most = sum_to-most (λ j. cond (slice_index_or flags j false && ltb (slice_index nodes j) x) 1 0) 1 n
-    (λ j _. one-most (slice_index_or flags j false && ltb (slice_index nodes j) x)) in
+    (λ j _. test-small (slice_index_or flags j false && ltb (slice_index nodes j) x)) in
     omega (arith, most)
 
 pub at-most : (flags : List Bool) (nodes : List ℕ) (x n : ℕ) → held_at flags nodes x n ≤ n
 at-most flags nodes x n =
     let most = sum_to-most (λ j. cond (slice_index_or flags j false && eqb (slice_index nodes j) x) 1 0) 1 n
-    (λ j _. one-most (slice_index_or flags j false && eqb (slice_index nodes j) x)) in
+    (λ j _. test-small (slice_index_or flags j false && eqb (slice_index nodes j) x)) in
     omega (arith, most)
 
 -- those before the end of node b: those before it begins, and those that it holds

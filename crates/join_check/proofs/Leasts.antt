@@ -13,6 +13,7 @@ use Rattle.join_check.proofs.Parted.{parted}
 use Rattle.join_check.proofs.Nodes.{AreNodes, above, under, under-own, under-other, above-own, way-within}
 use Rattle.join_check.proofs.Packing.{packed}
 use Rattle.join_check.proofs.Turned.{counts_turned, degree-turned, weight-turned, signed, magnitude-is, nat_abs-is}
+use Rattle.graph_theory.proofs.BlockSums.{cond_off}
 
 -- lengths and heights as natural numbers
 
@@ -76,18 +77,14 @@ under-top before len count x b nodes outside inside =
       | inr d ↦ under-other before len x (len x) b d
     ]
 
-none-either : (t : Bool) → cond {A = ℕ} t 0 0 ≡ 0
-none-either true = refl
-none-either false = refl
-
 level-term : (o : ℕ) (q : Bool) (s l : ℕ) → o < 2 → s < l → cond (ltb s (cond q l 0)) o 0 ≡ cond (eqb o 1 && q) 1 0
-level-term zero q s l small b = none-either (ltb s (cond q l 0))
+level-term zero q s l small b = cond_off (ltb s (cond q l 0))
 level-term (suc zero) true s l small b = cond-true (ltb s l) 1 0 (lt-ltb s l b)
 level-term (suc zero) false s l small b = cond-false (ltb s 0) 1 0 (le-ltb s 0 (omega arith))
 level-term (suc (suc o)) q s l small b = absurd (omega arith)
 
 even-term : (o : ℕ) (t q : Bool) → o ≡ 0 → cond t o 0 ≡ cond (eqb o 1 && q) 1 0
-even-term zero t q e = none-either t
+even-term zero t q e = cond_off t
 even-term (suc o) t q e = absurd (omega arith)
 
 odd-above : (i : Network) (odd : ℕ → ℕ) (f : Levels) (b s v : ℕ) → IsForest f → IsPlaced i odd f v → b < node_count f → s < len_of f b
@@ -123,7 +120,7 @@ lengths-sum f forest =
     int_sum_to-same (length_of f) (λ b. pos (len_of f b)) (node_count f) (λ b inside. sym (nat_abs-is (length_of f b) (forest.from_zero b inside)))
     ∙ int_sum_to-pos (len_of f) (node_count f)
 
-half : (a b : ℤ) → (pos 2 *ℤ a) ≤ℤ (pos 2 *ℤ b) → a ≤ℤ b
+pub half : (a b : ℤ) → (pos 2 *ℤ a) ≤ℤ (pos 2 *ℤ b) → a ≤ℤ b
 half a b h = omega (arith, ints, h)
 
 odd-degrees : (i : Network) (odd : ℕ → ℕ) (counts : List ℕ) (v : ℕ) → ((k : ℕ) → k < length (graph_of i).edges → slice_index counts k ≤ 1) → degree (graph_of i) counts v % 2 ≡ odd v

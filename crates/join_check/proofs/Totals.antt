@@ -5,6 +5,7 @@ use Rattle.mb_problem.proofs.Common.{int_sum_to, int_sum_to-same, int_sum_to-le,
 use Rattle.std.proofs.lemmas.Bool.{lt-leb}
 use Rattle.mb_problem.proofs.Common.{subst}
 use Rattle.join_check.specs.Checks.{at, AreLengths, ArePostorder, AreStarts, IsLength, held_by, started, topped}
+use Rattle.join_check.proofs.Counted.{one-on, one-off}
 
 cond-low : (t : Bool) (l : ℤ) → pos 0 ≤ℤ l → pos 0 ≤ℤ cond t l (pos 0)
 cond-low true l h = h
@@ -87,12 +88,6 @@ same-terms false false true true l h = absurd (omega arith)
 same-terms false false true false l h = absurd (omega arith)
 same-terms false false false true l h = absurd (omega arith)
 same-terms false false false false l h = refl
-
-one-on : (t : Bool) → t ≡ true → cond {A = ℕ} t 1 0 ≡ 1
-one-on t h = cond-true {A = ℕ} t 1 0 h
-
-one-off : (t : Bool) → t ≡ false → cond {A = ℕ} t 1 0 ≡ 0
-one-off t h = cond-false {A = ℕ} t 1 0 h
 
 inside-on : (p b x : ℕ) → p < x → x ≤ b → cond {A = ℕ} (ltb p x && leb x b) 1 0 ≡ 1
 inside-on p b x low high = one-on (ltb p x && leb x b) (and_from (ltb p x) (leb x b) (lt-ltb p x low) (le-leb x b high))

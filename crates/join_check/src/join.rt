@@ -3,8 +3,9 @@ ghost use Rattle.std.specs.Prelude.{IfOk};
 ghost use Rattle.std.specs.List.Sorted.{IsStrictlyIncreasing};
 ghost use Rattle.mb_problem.specs.Network.{IsNetwork, vertices};
 ghost use Rattle.mb_problem.specs.Size.{odd_at};
-ghost use Rattle.mb_problem.specs.Joins.{ListsJoin, listed_counts};
+ghost use Rattle.mb_problem.specs.Joins.{ListsJoin};
 
+use gadget_base::count_listed;
 use mb_base::{EdgeId, OutOfMemory};
 use mb_problem::{Instance, Parity, degrees_of, odd_by};
 use std::alloc::Global;
@@ -46,18 +47,6 @@ fn ascend(m: u32, edges: &[EdgeId]) -> bool
     true
 }
 
-/// Counts 1 for each edge that is listed, and 0 for each other one.
-fn counts_of(alloc: Global, m: usize, edges: &[EdgeId]) -> Result<Vec<u32>, OutOfMemory>
-    requires { All (λ e. (1 ≤ e) × (e ≤ m)) edges.now }
-    ensures { IfOk result (λ counts. counts.items ≡ listed_counts edges.now m) }
-{
-    let mut counts = vec![in alloc; 0u32; m]?;
-    for edge in edges {
-        counts[edge.number() as usize - 1] = 1;
-    }
-    Ok(counts)
-}
-
 /// Whether degrees have these parities.
 fn have_parities(degrees: &[u64], odds: &[u64]) -> bool
     requires { length odds.now ≡ length degrees.now }
@@ -90,7 +79,7 @@ pub(crate) fn is_join(
     if !ascend(m, join) {
         return Ok(false);
     }
-    let counts = counts_of(alloc, m as usize, join)?;
+    let counts = count_listed(alloc, instance, join)?;
     let degrees = degrees_of(alloc, instance, &counts)?;
     Ok(have_parities(&degrees, odds))
 }

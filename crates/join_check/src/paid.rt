@@ -45,9 +45,11 @@ fn negative_sum(instance: &Instance) -> i128
     sum
 }
 
-/// The weights of the edges of a join, added up.
-fn join_sum(instance: &Instance, edges: &[EdgeId]) -> i128
+/// The weights of edges, added up.
+pub fn weight_of(instance: &Instance, edges: &[EdgeId]) -> i128
     requires { All (IsEdgeNumber (graph_of instance.now)) edges.now }
+
+    // The weight of the list, within that of so many edges.
     ensures sum { result ≡ walk_weight (graph_of instance.now) edges.now }
     ensures low { neg_ℤ (pos (1_000_000_000_000 * length edges.now)) ≤ℤ result }
     ensures high { result ≤ℤ pos (1_000_000_000_000 * length edges.now) }
@@ -68,7 +70,7 @@ pub(crate) fn is_paid(instance: &Instance, join: &[EdgeId], lengths: &[i64]) -> 
         ≡ pos 2 *ℤ walk_weight (graph_of instance.now) join.now }
 {
     let bound = i128::from(length_sum(lengths)) + 2 * negative_sum(instance);
-    if bound != 2 * join_sum(instance, join) {
+    if bound != 2 * weight_of(instance, join) {
         return false;
     }
     true

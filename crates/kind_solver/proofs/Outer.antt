@@ -30,18 +30,13 @@ use Rattle.gallai.proofs.Moved.{searched_graph, searched-graph}
 use Rattle.graph_parts.proofs.Once.{once-short as few_differ}
 use Rattle.kind_solver.specs.Greatest.{path_line, StatesGreatest}
 use Rattle.doc_format.specs.declared.part.Part.TheVariants as part
+use Rattle.document_lines.proofs.LineItems.{up_to}
 
 -- a path has fewer edges than there are vertices
 path-short : (g : Multigraph) (counts : List ℕ) (v : ℕ) (es : List ℕ) → IsGraph g → (1 ≤ v) × (v ≤ g.vertices) → IsEvenPath g counts v es → length es + 1 ≤ g.vertices
 path-short g counts v es graph start path =
     let few = few_differ g.vertices (walk_vertices g v es) path.no_vertex_twice (vertices-within g v es graph.ends start path.walk) in
     omega (arith, few, vertices-length g v es)
-
-up_to_one : (n e : ℕ) → (1 ≤ e) × (e ≤ n) → IsUpTo n (pos e)
-up_to_one n e h =
-    let low : 1 ≤ e = h.0 in
-    let high : e ≤ n = h.1 in
-    record { low = omega (arith, ints, low); high = omega (arith, ints, high) }
 
 -- a matching has no more edges than the instance
 pub few-matching : (i : Network) (found : Decomposition) → IsNetwork i → IsDecomposition i found → length found.matching ≤ 65536
@@ -142,7 +137,7 @@ module _ (i : Network) (found : Decomposition) (d : Document) (network : IsNetwo
       let m = length i.edges in
       let edges : All (λ e. (1 ≤ e) × (e ≤ m)) q.1 =
       subst (λ (n : ℕ). All (λ e. (1 ≤ e) × (e ≤ n)) q.1) (edges-count i) (walk-numbers (graph_of i) q.0 q.1 path.walk) in
-      (up_to_one (vertices i) q.0 start, All-map (IsUpTo m) pos q.1 (All-weaker (λ e. (1 ≤ e) × (e ≤ m)) (λ e. IsUpTo m (pos e)) (up_to_one m) q.1 edges))
+      (up_to (vertices i) q.0 start, All-map (IsUpTo m) pos q.1 (All-weaker (λ e. (1 ≤ e) × (e ≤ m)) (λ e. IsUpTo m (pos e)) (up_to m) q.1 edges))
 
   paths_within : All (IsPathWithin (vertices i) (length i.edges)) (map path_line found.paths)
   paths_within =

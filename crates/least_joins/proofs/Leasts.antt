@@ -1,11 +1,9 @@
 -- The join of a perfect matching of least weight.
-use Rattle.graph_theory.proofs.Common.{ℕ, ℤ, pos, ◌*ℤ◌, ◌≤ℤ◌, List, subst, arith, ints, IsGraph, IsPerfect, weight, dual_value}
+use Rattle.graph_theory.proofs.Common.{ℕ, ℤ, pos, ◌*ℤ◌, ◌≤ℤ◌, List, subst, IsGraph, IsPerfect, weight, dual_value}
 use Rattle.graph_theory.proofs.Common.{weak_duality}
 use Rattle.mwpm_engine.specs.Solutions.{Solution, IsSolved, matching_of}
 use Rattle.least_joins.proofs.Listing.{listing}
-
-half : (a b : ℤ) → (pos 2 *ℤ a) ≤ℤ (pos 2 *ℤ b) → a ≤ℤ b
-half a b h = omega (arith, ints, h)
+use Rattle.join_check.proofs.Leasts.{half}
 
 -- no perfect matching weighs less
 pub least : (s : Solution) (counts : List ℕ) → IsGraph s.graph → IsSolved s → IsPerfect s.graph counts → weight s.graph (matching_of s.graph s.mates) ≤ℤ weight s.graph counts

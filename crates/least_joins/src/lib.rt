@@ -5,9 +5,11 @@
 #![tactic(auto)]
 
 mod barrier;
+mod edge_numbers;
 mod least;
 mod matched;
 
 pub use barrier::barrier_vertices;
+pub use edge_numbers::numbers_of;
 pub use least::least_join;
 pub use matched::matching;

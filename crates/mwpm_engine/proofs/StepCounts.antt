@@ -1,5 +1,5 @@
 -- How many steps a phase counts at most.
-use Rattle.alt_forest.proofs.Common.{◌≡◌, ◌≢◌, ◌⊎◌, ℕ, ◌+◌, ◌*◌, ◌≤◌, Bool, true, false, eqb, cond, List, [], ◌∷◌, length, subst, arith, inl, inr}
+use Rattle.alt_forest.proofs.Common.{◌≡◌, ◌≢◌, ◌⊎◌, ℕ, ◌+◌, ◌*◌, ◌≤◌, eqb, cond, List, [], ◌∷◌, length, subst, arith, inl, inr}
 use Rattle.alt_forest.proofs.Common.{All, list_any, mul-le, eqb-true, eqb-false, Multigraph, IsGraph, IsEdgeNumber, IsEdgeWithin, HasNoLoop, edge_of, edges_around, edge_of_within, sum_to-le}
 use Rattle.alt_forest.proofs.Common.{sum_to-most, one_if-most, Blossom, Family, by_test, blossoms_most, State, IsOutermost, HasShape, state_of, is_outside, outside_vertices, outside_among}
 use Rattle.alt_forest.proofs.Common.{measure, entry_count, looks_left, outside_ends, all_ends, nested_of, outer_range}
@@ -10,6 +10,7 @@ use Rattle.augment.proofs.Joined.{none_entered}
 use Rattle.mwpm_engine.specs.Solutions.{size_of_graph}
 use Rattle.mwpm_engine.specs.Passes.{IsReady, account, steps_to, phase_steps}
 use Rattle.greedy_start.proofs.FarEnds.{ends_differ}
+use Rattle.greedy_start.proofs.FirstTurns.{turn_most}
 
 -- products
 
@@ -32,14 +33,10 @@ left_most s = omega (arith, outside_most s, among_most s s.blossoms)
 
 -- the looks that are left: at most two for each edge, and two more with each blossom
 
-one_of : (t : Bool) (x : ℕ) → cond t x 0 ≤ x
-one_of true x = omega arith
-one_of false x = omega arith
-
 pub looks_most : (s : State) → All (IsEdgeWithin s.graph.vertices) s.graph.edges → looks_left s ≤ 2 * length s.graph.edges + 2 * length s.graph.edges * length s.blossoms
 looks_most s ends =
     let some = sum_to-le (λ i. cond (is_outside s (i + 1)) (length (edges_around s.graph (i + 1))) 0) (λ i. length (edges_around s.graph (i + 1))) s.graph.vertices
-    (λ i low. one_of (is_outside s (i + 1)) (length (edges_around s.graph (i + 1)))) in
+    (λ i low. turn_most (is_outside s (i + 1)) (length (edges_around s.graph (i + 1)))) in
     let all = all_ends s.graph ends in
     let rest = times_le (outside_among s s.blossoms) (length s.blossoms) (2 * length s.graph.edges) (among_most s s.blossoms) in
     plain (outside_ends s) (length s.graph.edges) (outside_among s s.blossoms) (length s.blossoms) (omega (arith, some, all)) rest

@@ -8,7 +8,6 @@ pub mod ShortSets
 pub mod SettlingSets
 pub mod PartDocuments
 mod SplitParts
-mod JoinCounts
 mod JoinAnswers
 mod PathJoins
 mod TurnAnswers

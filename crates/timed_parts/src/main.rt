@@ -9,6 +9,7 @@ mod documents;
 mod gadgets;
 mod queue;
 mod rising;
+mod sums;
 mod walks;
 mod words;
 

@@ -1,5 +1,6 @@
 ghost use Rattle.std.specs.Prelude.{◌≡◌, length};
 
+use crate::sums::{line, next};
 use mb_base::EdgeId;
 use search_heap::{EdgeQueue, Item};
 use std::alloc::Global;
@@ -12,13 +13,6 @@ const SETS: u32 = 131_072;
 
 /// Moments are below this number, so that few are equal.
 const MOMENTS: u64 = 1_000_000;
-
-/// The next number of a linear congruential generator.
-fn next(state: u64) -> u64 {
-    state
-        .wrapping_mul(6_364_136_223_846_793_005)
-        .wrapping_add(1_442_695_040_888_963_407)
-}
 
 /// Gives edges moments that are drawn, and answers the generator's last number.
 fn fill(queue: &mut EdgeQueue, start: u64) -> u64
@@ -76,6 +70,5 @@ fn checksum(alloc: Global, rounds: u32) -> Option<u64> {
 /// answers a checksum of what came.
 pub fn run(alloc: Global, rounds: u32) -> Option<Vec<u8>> {
     let sum = checksum(alloc, rounds)?;
-    let text = format!(in alloc; "{sum}\n").ok()?;
-    Some(text.into_bytes())
+    line(alloc, sum)
 }

@@ -1,5 +1,6 @@
 ghost use Rattle.std.specs.Prelude.{◌≡◌, length};
 
+use crate::sums::{line, next};
 use blossom_arena::NodeId;
 use search_heap::{Item, RisingQueue};
 use std::alloc::Global;
@@ -19,13 +20,6 @@ struct State {
     draws: u64,
     clock: u64,
     sum: u64,
-}
-
-/// The next number of a linear congruential generator.
-fn next(state: u64) -> u64 {
-    state
-        .wrapping_mul(6_364_136_223_846_793_005)
-        .wrapping_add(1_442_695_040_888_963_407)
 }
 
 /// How far ahead of the clock a moment lies: for one of eight draws it is the clock itself.
@@ -129,6 +123,5 @@ fn checksum(alloc: Global, rounds: u32) -> Option<u64> {
 /// answers a checksum of what came.
 pub fn run(alloc: Global, rounds: u32) -> Option<Vec<u8>> {
     let sum = checksum(alloc, rounds)?;
-    let text = format!(in alloc; "{sum}\n").ok()?;
-    Some(text.into_bytes())
+    line(alloc, sum)
 }

@@ -1,9 +1,10 @@
 ghost use Rattle.std.specs.Prelude.{◌≡◌, ℕ, ◌+◌, ◌<◌, ◌≤◌, ◌%◌, true, length, All, IfOk, IfSome};
 ghost use Rattle.std.specs.List.Sorted.{IsStrictlyIncreasing};
 ghost use Rattle.graph_theory.specs.Graph.{IsEdgeNumber, degree};
-ghost use Rattle.mb_problem.specs.Network.{graph_of, vertices};
-ghost use Rattle.mb_problem.specs.Joins.{ListsJoin, listed_counts, odd_between};
+ghost use Rattle.mb_problem.specs.Network.{IsNetwork, graph_of, vertices};
+ghost use Rattle.mb_problem.specs.Joins.{ListsJoin, odd_between};
 
+use gadget_base::count_listed;
 use mb_base::{EdgeId, OutOfMemory, Sequence, VertexId};
 use mb_problem::{Instance, Join, degree};
 use std::alloc::Global;
@@ -22,7 +23,8 @@ fn ascend(edges: &[EdgeId]) -> bool
 
 /// Whether all are numbers of edges.
 fn are_numbers(instance: &Instance, edges: &[EdgeId]) -> bool
-    ensures { result ≡ true → All (IsEdgeNumber (graph_of instance.now)) edges.now }
+    ensures numbers { result ≡ true → All (IsEdgeNumber (graph_of instance.now)) edges.now }
+    ensures network { IsNetwork instance.now }
 {
     let most = instance.edges();
     for e in edges {
@@ -34,18 +36,6 @@ fn are_numbers(instance: &Instance, edges: &[EdgeId]) -> bool
         }
     }
     true
-}
-
-/// Counts 1 for each edge that is listed, and 0 for each other one.
-fn counts_of(alloc: Global, m: u32, edges: &[EdgeId]) -> Result<Vec<u32>, OutOfMemory>
-    requires { All (λ e. (1 ≤ e) × (e ≤ m)) edges.now }
-    ensures { IfOk result (λ counts. counts.items ≡ listed_counts edges.now m) }
-{
-    let mut counts = vec![in alloc; 0u32; m as usize]?;
-    for edge in edges {
-        counts[edge.number() as usize - 1] = 1;
-    }
-    Ok(counts)
 }
 
 /// 1 at two vertices, and 0 elsewhere.
@@ -96,7 +86,7 @@ pub fn joined(
     if !are_numbers(instance, &edges) {
         return Ok(None);
     }
-    let counts = counts_of(alloc, instance.edges(), &edges)?;
+    let counts = count_listed(alloc, instance, &edges)?;
     if !have_parities(instance, &counts, s, t) {
         return Ok(None);
     }

@@ -1,11 +1,7 @@
-ghost use Rattle.std.specs.Prelude.{◌≡◌, All};
-ghost use Rattle.graph_theory.specs.Graph.{IsEdgeNumber};
-ghost use Rattle.graph_theory.specs.Walk.{walk_weight};
-ghost use Rattle.mb_problem.specs.Network.{graph_of};
-
 use super::instances::instance;
 use super::odd_joins::joined;
 use conservative_paths::{negative_circuit, path_in};
+use join_check::weight_of;
 use mb_base::{EdgeId, VertexId};
 use mb_problem::{Answer, Instance, Kind, feasible, is_circuit};
 use std::alloc::Global;
@@ -124,18 +120,6 @@ fn paths_within_joins(rt: HostRuntime) -> Result<(), Fail> {
         assert!(rt; is_wanted(rt.alloc(), *text, *numbers, *s, *t, *total)?);
     }
     Ok(())
-}
-
-/// The weights of the edges, added up.
-fn weight_of(instance: &Instance, edges: &[EdgeId]) -> i128
-    requires { All (IsEdgeNumber (graph_of instance.now)) edges.now }
-    ensures { result ≡ walk_weight (graph_of instance.now) edges.now }
-{
-    let mut total = 0;
-    for edge in edges {
-        total += i128::from(instance.edge(*edge).2);
-    }
-    total
 }
 
 /// The circuit within the even set of these edges, if that is one and weighs less than 0.

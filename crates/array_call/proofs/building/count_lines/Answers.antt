@@ -1,7 +1,8 @@
 use Rattle.certificates.proofs.Common.{◌≡◌, ℕ, pos, List, map, length, All, sym, ap, ◌∙◌, subst, arith, CountLine, AscendsBy, counts_of, numbers, lines-push}
 use Rattle.document_lines.specs.Lines.{is_used, line_at}
 use Rattle.array_call.specs.Sheets.{IsCountOn}
-use Rattle.array_call.proofs.Sheets.{lines_to, lines-ascend, lines-on}
+use Rattle.document_lines.proofs.CountLines.{lines_to, lines-ascend}
+use Rattle.array_call.proofs.Sheets.{lines-on}
 use Rattle.array_call.proofs.CountsBack.{lines-back}
 use Rattle.array_call.proofs.building.count_lines.Goals as goal
 

@@ -1,5 +1,5 @@
 use Rattle.certificates.proofs.Common.{◌≡◌, numbers}
-use Rattle.array_call.proofs.Sheets.{lines_to}
+use Rattle.document_lines.proofs.CountLines.{lines_to}
 use Rattle.array_call.proofs.building.count_lines.Given as goal
 
 abbrev pub invariant-loop-k : goal.invariant-loop-k

@@ -1,6 +1,7 @@
 use Rattle.alt_forest.proofs.Common.{◌<◌, ◌∙◌, refl, sym, ap, subst, vec_len, AllByRecursion, edge_in}
 use Rattle.augment.specs.Opening.{marked, up_to}
-use Rattle.augment.proofs.Holders.{mark_step, chain_places}
+use Rattle.blossom_arena.proofs.ChainSums.{chain_places}
+use Rattle.augment.proofs.Holders.{mark_step}
 use Rattle.augment.proofs.marking.mark_holders.Goals as goal
 
 pub loop-holder-init : goal.loop-holder-init

@@ -1,5 +1,5 @@
 use Rattle.alt_forest.proofs.Common.{◌≡◌, ◌+◌, ◌<◌, ◌∙◌, slice_index, replicate, vec_len, sym, ap, subst, arith, AllByRecursion, most_blossoms, chain_of}
-use Rattle.augment.proofs.Holders.{chain_places}
+use Rattle.blossom_arena.proofs.ChainSums.{chain_places}
 use Rattle.augment.proofs.Noted.{noted, noted_same, noted_leads, noted_more, zeros}
 use Rattle.augment.proofs.missing.children_holding.Goals as goal
 

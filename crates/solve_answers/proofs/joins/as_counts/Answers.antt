@@ -1,5 +1,5 @@
 use Rattle.certificates.proofs.Common.{◌≡◌, ◌≤◌, length, ap, ◌∙◌, arith, weight, Counts, graph_of, times_each, weight_of_list}
-use Rattle.solve_answers.proofs.JoinCounts.{few-edges, times-listed}
+use Rattle.join_check.proofs.Listed.{few-edges, times-listed}
 use Rattle.solve_answers.proofs.joins.as_counts.Goals as goal
 
 pub count_listed-requires-clause-size_limit : goal.count_listed-requires-clause-size_limit

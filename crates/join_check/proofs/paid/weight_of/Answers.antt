@@ -2,7 +2,7 @@ use Rattle.mb_problem.proofs.Common.{◌≡◌, ℕ, ◌+◌, ◌-◌, ◌+ℤ�
 use Rattle.std.proofs.lemmas.List.{drop_all}
 use Rattle.mb_problem.specs.Network.{graph_of}
 use Rattle.mb_problem.proofs.EdgeLemmas.{edge_at-graph_of}
-use Rattle.join_check.proofs.paid.join_sum.Goals as goal
+use Rattle.join_check.proofs.paid.weight_of.Goals as goal
 
 pub loop-edge-preserved : goal.loop-edge-preserved
 loop-edge-preserved c =

@@ -1,6 +1,6 @@
 use Rattle.graph_theory.proofs.Common.{◌-◌, ap, ◌∙◌, map, slice_index, take_all}
 use Rattle.graph_theory.proofs.MappedLists.{numbered-more}
-use Rattle.gallai.proofs.edge_numbers.numbers_of.Goals as goal
+use Rattle.least_joins.proofs.edge_numbers.numbers_of.Goals as goal
 
 pub loop-edge-preserved : goal.loop-edge-preserved
 loop-edge-preserved c =

@@ -1,6 +1,6 @@
 use Rattle.mb_problem.proofs.Common.{◌≡◌, ◌*◌, drop, pos, neg_ℤ, ◌+ℤ◌, ◌≤ℤ◌, walk_weight}
 use Rattle.mb_problem.specs.Network.{graph_of}
-use Rattle.join_check.proofs.paid.join_sum.Given as goal
+use Rattle.join_check.proofs.paid.weight_of.Given as goal
 
 abbrev pub invariant-loop-edge : goal.invariant-loop-edge
 invariant-loop-edge l = record {

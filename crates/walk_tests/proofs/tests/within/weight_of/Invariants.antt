@@ -1,9 +1,0 @@
-use Rattle.mb_problem.proofs.Common.{◌≡◌, ◌*◌, ◌^◌, drop, pos, neg_ℤ, ◌+ℤ◌, ◌≤ℤ◌, walk_weight, graph_of}
-use Rattle.walk_tests.proofs.tests.within.weight_of.Given as goal
-
-abbrev pub invariant-loop-edge : goal.invariant-loop-edge
-invariant-loop-edge l = record {
-  sum : walk_weight (graph_of l.instance) l.edges ≡ l.total +ℤ walk_weight (graph_of l.instance) (drop l.edge-index l.edges);
-  low : neg_ℤ (pos (2 ^ 63 * l.edge-index)) ≤ℤ l.total;
-  high : l.total ≤ℤ pos (2 ^ 63 * l.edge-index);
-}
