@@ -1,6 +1,6 @@
 mod changes;
 mod draws;
+mod families;
 mod forests;
 mod guesses;
-mod instances;
 mod joins;

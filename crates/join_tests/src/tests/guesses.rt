@@ -1,4 +1,4 @@
-use super::instances::{Family, Shape, drawn};
+use super::families::{Family, Shape, drawn};
 use super::joins::{guessed, searched, weight_of};
 use Shape::{Grid, Sparse};
 use mb_problem::Instance;
