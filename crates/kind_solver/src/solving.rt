@@ -1,6 +1,6 @@
 ghost use Rattle.std.specs.Prelude.{◌≡◌, ◌≤◌, ◌+◌, ◌*◌, length, true, false, IfOk};
-ghost use Rattle.mb_problem.specs.Kinds.{searches_of};
-ghost use Rattle.mb_problem.specs.Ready.{IsReady};
+ghost use Rattle.mb_problem.specs.Kinds.{searches_of, proof_of, are_duals};
+ghost use Rattle.mb_problem.specs.Ready.{HasWeightsFromZero, IsReady};
 ghost use Rattle.mb_problem.specs.Size.{size_of};
 ghost use Rattle.graph_theory.specs.Limits.{IsWithinLimits};
 ghost use Rattle.doc_format.specs.Spelling.{document_text};
@@ -8,8 +8,8 @@ ghost use Rattle.doc_format.specs.declared.status.DocStatus.TheVariants.{Infeasi
 ghost use Rattle.certificates.specs.Proved.{IsProved, StatesTruth};
 ghost use Rattle.mwpm_engine.specs.Solutions.{most_steps};
 ghost use Rattle.solve_answers.specs.Chosen.{IsChosen};
-ghost use Rattle.solve_answers.specs.Settled.{HasShortWalk, IsWrittenFor, SettlesFor};
-ghost use Rattle.solve_answers.specs.Settled.{byte_limit_of};
+ghost use Rattle.solve_answers.specs.Settled.{HasShortWalk, IsWrittenFor, Settles};
+ghost use Rattle.solve_answers.specs.Settled.{SettlesFor, byte_limit_of};
 ghost use Rattle.solve_answers.specs.Solved.{HasTrueStatus, is_tested_first};
 
 use crate::barriers::lightest;
@@ -18,13 +18,13 @@ use doc_format::Document;
 use mb_base::{OutOfMemory, Steps};
 use mb_problem::{BestProof, Instance, Kind};
 use solve_answers::Detail;
-use solve_kinds::solve_for;
+use solve_kinds::solve_by_duals;
 use std::alloc::Global;
 use std::sync::ledger::Ledger;
 
 /// Solves an instance: the document of a best answer, or of what excludes all answers. It proves
 /// what it states, whole: an accepting judge is sure. If duals prove a best answer it is the one of
-/// `solve_kinds::solve`, whose comment says how it is sought and what an instance needs. Else
+/// `solve_kinds::solve_by_duals`, whose comment says how it is sought and what an instance needs. Else
 /// halving over the weights minimises the largest edge weight of a perfect matching, or one search
 /// for a maximum matching may end stuck (Schrijver, Combinatorial Optimization, volume A, chapter
 /// 24).
@@ -57,10 +57,15 @@ pub fn solve<L: Ledger>(
     // A walk has at most twice as many edges as the instance.
     ensures short_walk { IfOk result (HasShortWalk instance.now) }
 
+    // All of this by one name, which callers pass on.
+    ensures settled { IfOk result (Settles kind instance.now) }
+
     // Within the steps of one search, two for a path if some weight is negative and 17 for a
     // bottleneck.
     ensures steps { steps.new ≤ steps.old
         + searches_of kind * most_steps (size_of kind instance.now) }
+    ensures once { are_duals (proof_of kind) ≡ true → HasWeightsFromZero instance.now
+        → steps.new ≤ steps.old + most_steps (size_of kind instance.now) }
 
     // Where a part that no edge leaves excludes all answers that is seen without a search.
     ensures unsearched { IfOk result
@@ -93,11 +98,13 @@ pub fn solve_written<L: Ledger>(
     ensures settled { IfOk result (SettlesFor detail kind instance.now) }
     ensures steps { steps.new ≤ steps.old
         + searches_of kind * most_steps (size_of kind instance.now) }
+    ensures once { are_duals (proof_of kind) ≡ true → HasWeightsFromZero instance.now
+        → steps.new ≤ steps.old + most_steps (size_of kind instance.now) }
     ensures unsearched { IfOk result
         (λ d. is_tested_first kind ≡ true → d.status ≡ Infeasible → steps.new ≡ steps.old) }
 {
     match kind.proof() {
-        BestProof::Duals(_) => solve_for(alloc, instance, kind, detail, steps),
+        BestProof::Duals(_) => solve_by_duals(alloc, instance, kind, detail, steps),
         BestProof::LighterBarrier => lightest(alloc, instance, kind, steps),
         BestProof::OuterPaths => greatest(alloc, instance, kind, steps),
     }

@@ -12,4 +12,4 @@ mod searching;
 mod solving;
 
 pub use solve_answers::{DOCUMENT_BYTE_LIMIT, PATHS_BYTE_LIMIT, infeasible_by};
-pub use solving::{solve, solve_for};
+pub use solving::solve_by_duals;

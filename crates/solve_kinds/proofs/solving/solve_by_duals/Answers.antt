@@ -6,7 +6,7 @@ use Rattle.mb_problem.proofs.Common.{size_of}
 use Rattle.mwpm_engine.specs.Solutions.{most_steps}
 use Rattle.solve_answers.specs.Settled.{SettlesOrIsFit, SettlesOrHasNoPart}
 use Rattle.solve_kinds.proofs.Settling.{settles-for}
-use Rattle.solve_kinds.proofs.solving.solve_for.Goals as goal
+use Rattle.solve_kinds.proofs.solving.solve_by_duals.Goals as goal
 
 -- what the first search counts is within what all may
 by-first : (searches most old new : ℕ) → new ≤ old + (searches - 1) * most → new ≤ old + searches * most
