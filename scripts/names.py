@@ -22,6 +22,15 @@ OLD = {
         "text_check": "check_text",
         "dual_free_kinds": "solve_kinds",
         "match_call": "match_cli",
+        "command_words": "match_cli",
+        "outcome_lines": "document_lines",
+        "greedy_start": "search_start",
+        "pass_parts": "search_start",
+        "join_guess": "array_joins",
+        "join_tests": "walk_tests",
+        "solve_tests": "program_tests",
+        "text_tests": "program_tests",
+        "kind_solver": "solve_kinds",
     },
     "module": {
         "bounding": "a noun with `by_keys`",
@@ -82,7 +91,7 @@ OLD_WORDS = {
     r"\buproot\w*": "free the tree",
 }
 #: Crates whose comments have such words of another meaning.
-OTHER_WORDS = {"inst_gen", "command_words", "match_cli", "search_tests", "brute_force"}
+OTHER_WORDS = {"inst_gen", "match_cli", "search_tests", "brute_force"}
 #: What stays, by what it names, crate and name: `*` is every crate.
 KEPT = {
     ("clause", "*", "some"): "what holds of a value, beside `none`; as a premise, at least one",
@@ -97,7 +106,7 @@ KEPT = {
     ("clause", "mb_problem", "standing"): "the bounds of vertices that stand alone",
     ("clause", "gadget_base", "begun"): "a run of places that has begun, beside `not_ended`",
     ("clause", "blossom_arena", "fresh"): "a name that no node has",
-    ("type", "text_tests", "Ending"): "how a run of the program ends",
+    ("type", "program_tests", "Ending"): "how a run of the program ends",
 }
 CLAUSE = re.compile(r"^\s*(?:requires|ensures)\*? (\w+) \{", re.M)
 TYPE = re.compile(r"^\s*(?:pub(?:\(\w+\))? )?(?:struct|enum|trait|type) (\w+)", re.M)

@@ -10,7 +10,7 @@ STATEMENTS = (
     ("a document proves what it states", ("certificates", "Proved", "IsProved")),
     ("the contract of `cert_check::judge`", ("cert_check/src/judging.rt", "judge")),
     ("the contract of `mwpm_engine::Engine::run`", ("mwpm_engine/src/engine.rt", "Engine::run")),
-    ("the contract of `kind_solver::solve`", ("kind_solver/src/solving.rt", "solve")),
+    ("the contract of `solve_kinds::solve`", ("solve_kinds/src/solving.rt", "solve")),
     ("the contract of `match_cli::run`, with all formats", ("match_cli/src/program.rt", "run")),
 )
 

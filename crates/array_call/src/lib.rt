@@ -1,8 +1,8 @@
 //! The solver over arrays: an instance as the ends, weights, capacities and values of its edges and
 //! vertices in, the answer as numbers out. Nothing is spelled or read on the way. It depends on
-//! `mb_problem` for instances and on `kind_solver` for the solver. It promises which arrays are
+//! `mb_problem` for instances and on `solve_kinds` for the solver. It promises which arrays are
 //! refused, by the first fault in a stated order, and of all others the answer that
-//! `kind_solver::solve` promises of the instance that they are.
+//! `solve_kinds::solve` promises of the instance that they are.
 #![tactic(auto)]
 
 mod arrays;

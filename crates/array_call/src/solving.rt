@@ -10,10 +10,10 @@ use crate::arrays::InstanceArrays;
 use crate::error::ArrayError;
 use crate::making::instance_of;
 use doc_format::Document;
-use kind_solver::{SolveError, solve_sized};
 use mb_base::Steps;
 use mb_problem::{Instance, Kind};
 use solve_answers::Detail;
+use solve_kinds::{SolveError, solve_sized};
 use std::alloc::Global;
 use std::sync::ledger::Ledger;
 
@@ -59,7 +59,7 @@ pub(crate) fn solve_for<L: Ledger>(
     answer
 }
 
-/// Solves the instance that arrays are for a kind, as `kind_solver::solve` does: the document of a
+/// Solves the instance that arrays are for a kind, as `solve_kinds::solve` does: the document of a
 /// best answer, or of what excludes all answers. Edges and vertices count from 1. The steps of the
 /// searches are counted on `steps`.
 pub fn solve_arrays<L: Ledger>(

@@ -5,3 +5,5 @@ mod Leasts
 mod Layouts
 pub mod Sizes
 mod Answered
+pub mod PairedUp
+pub mod PortCounts

@@ -5,3 +5,4 @@ pub mod Marked
 pub mod Outcomes
 pub mod Numbers
 pub mod Answers
+pub mod PairedUp

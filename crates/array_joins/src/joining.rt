@@ -11,13 +11,13 @@ ghost use Rattle.array_joins.specs.Terminals.{first_fault, network_with, HasNoTe
 ghost use Rattle.array_joins.specs.Outcomes.{AnswersMarked, AnswersSet, AnswersEach, search_steps};
 ghost use Rattle.array_joins.specs.Outcomes.{steps_by, set_steps, all_steps};
 
+use crate::guessed::guessed_join;
 use crate::marking::{mark, unmark};
 use crate::outcome::{SetOutcome, TerminalFault};
 use crate::sets::set_at;
 use crate::weighing::weight_of;
 use certificates::is_within_limits;
 use graph_parts::{JoinOrOdd, join_or_odd};
-use join_guess::guessed_join;
 use least_joins::least_join;
 use mb_base::{OutOfMemory, Steps};
 use mb_problem::{EDGE_LIMIT, Instance, Join, Kind, Parity, gadget_size};

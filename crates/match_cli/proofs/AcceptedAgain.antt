@@ -6,9 +6,9 @@ use Rattle.solve_answers.proofs.Short.{limit-most}
 use Rattle.check_text.specs.declared.status.Status.{Status}
 use Rattle.check_text.specs.declared.status.Status.TheVariants.{Done, Rejected, Usage, Malformed, TooLarge, TooLong, ReadFault, WriteFault, OutOfMemory}
 use Rattle.check_text.proofs.AcceptedBehind.{accepts_both}
-use Rattle.command_words.specs.declared.command.Command.{Command}
-use Rattle.command_words.specs.declared.command.Command.TheVariants.{Check, Solve}
-use Rattle.command_words.specs.Commands.{command_of}
+use Rattle.match_cli.specs.declared.command.Command.{Command}
+use Rattle.match_cli.specs.declared.command.Command.TheVariants.{Check, Solve}
+use Rattle.match_cli.specs.Arguments.{command_of}
 use Rattle.match_cli.specs.declared.limits.TheConstants.{SOLVE_BYTE_LIMIT}
 use Rattle.match_cli.specs.Commands.{given}
 use Rattle.match_cli.specs.Solving.{Solves}

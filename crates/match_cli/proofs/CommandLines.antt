@@ -1,8 +1,8 @@
 -- What the words of a command line can ask for, and what is read for them.
 use Rattle.certificates.proofs.Common.{◌≡◌, ℕ, List, [], ◌∷◌, Option, Some, refl, ap, codes, option_map, Kind, kind_text, kind-back}
-use Rattle.command_words.specs.Commands.{command_of}
-use Rattle.command_words.specs.declared.command.Command.{Command}
-use Rattle.command_words.specs.declared.command.Command.TheVariants.{Check, Solve, Trial}
+use Rattle.match_cli.specs.Arguments.{command_of}
+use Rattle.match_cli.specs.declared.command.Command.{Command}
+use Rattle.match_cli.specs.declared.command.Command.TheVariants.{Check, Solve, Trial}
 use Rattle.match_cli.specs.Commands.{limit_of, given}
 use Rattle.match_cli.specs.Runs.{left_by}
 

@@ -3,9 +3,9 @@ use Rattle.certificates.proofs.Common.{◌≡◌, ℕ, ◌≤◌, List, [], leng
 use Rattle.certificates.proofs.Common.{IsWithinLimits}
 use Rattle.dimacs_read.specs.declared.rule.Rule.{Rule}
 use Rattle.dimacs_read.proofs.ReadingLemmas.{one_instance, no_instance_and_fault}
-use Rattle.command_words.specs.declared.command.Command.{Command}
-use Rattle.command_words.specs.declared.command.Command.TheVariants.{Check, Solve, Trial}
-use Rattle.command_words.specs.Commands.{command_of}
+use Rattle.match_cli.specs.declared.command.Command.{Command}
+use Rattle.match_cli.specs.declared.command.Command.TheVariants.{Check, Solve, Trial}
+use Rattle.match_cli.specs.Arguments.{command_of}
 use Rattle.check_text.specs.declared.status.Status.{Status}
 use Rattle.check_text.specs.declared.status.Status.TheVariants.{Done, Rejected, Usage, Malformed, TooLarge, TooLong, ReadFault, WriteFault, OutOfMemory}
 use Rattle.match_cli.specs.Commands.{IsShort, given}

@@ -1,7 +1,7 @@
 -- What follows from the answer of a command alone: how it can end, and that what it states is true.
 use Rattle.graph_theory.proofs.Common.{ℕ, List}
-use Rattle.command_words.specs.declared.command.Command.{Command}
-use Rattle.command_words.specs.declared.command.Command.TheVariants.{Check, Solve, Trial}
+use Rattle.match_cli.specs.declared.command.Command.{Command}
+use Rattle.match_cli.specs.declared.command.Command.TheVariants.{Check, Solve, Trial}
 use Rattle.check_text.specs.declared.status.Status.{Status}
 use Rattle.check_text.specs.declared.status.Status.TheVariants.{Done, Rejected, Usage, Malformed, TooLarge, TooLong, ReadFault, WriteFault, OutOfMemory}
 use Rattle.match_cli.specs.Answers.{Answers, Gives}

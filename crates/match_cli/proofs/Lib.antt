@@ -10,3 +10,7 @@ pub mod TrialAnswers
 pub mod Completeness
 pub mod RunEnds
 pub mod TaskAnswers
+pub mod Taken
+pub mod Forms
+pub mod FormLemmas
+pub mod Ranges

@@ -4,15 +4,15 @@ use Rattle.graph_theory.proofs.Common.{Result, Ok, Err, codes, drop, IfSome, IfO
 use Rattle.mb_base.specs.Streams.{ReadsAll}
 use Rattle.mb_base.specs.declared.whole.ReadAll.{ReadAll}
 use Rattle.certificates.proofs.Common.{append-nil, length-append}
-use Rattle.command_words.specs.declared.command.Command.{Command}
-use Rattle.command_words.specs.Commands.{command_of}
+use Rattle.match_cli.specs.declared.command.Command.{Command}
+use Rattle.match_cli.specs.Arguments.{command_of}
 use Rattle.check_text.specs.declared.output.Output.{Output}
 use Rattle.match_cli.specs.declared.program.Failure.{Failure}
 use Rattle.match_cli.specs.Prepared.{Prepares, Readies}
 use Rattle.check_text.specs.declared.status.Status.{Status}
 use Rattle.check_text.specs.declared.status.Status.TheVariants.{Done, Rejected, Usage, Malformed, TooLarge, TooLong, ReadFault, WriteFault, OutOfMemory}
 use Rattle.match_cli.specs.Commands.{limit_of, ReadsUpTo, given}
-use Rattle.command_words.specs.declared.command.Command.TheVariants.{Check, Solve, Trial}
+use Rattle.match_cli.specs.declared.command.Command.TheVariants.{Check, Solve, Trial}
 use Rattle.match_cli.specs.Counts.{CountsInstance, CountsSource}
 use Rattle.match_cli.specs.Answers.{Gives, Out}
 use Rattle.match_cli.specs.Runs.{IsAnswer, IsWritten, left_by, Spends}

@@ -4,8 +4,8 @@ use Rattle.certificates.proofs.Common.{Size, IsWithinLimits, searches_of}
 use Rattle.mwpm_engine.specs.Solutions.{most_steps}
 use Rattle.dimacs_read.proofs.ReadingLemmas.{one_instance}
 use Rattle.solve_answers.specs.declared.detail.Detail.{Detail}
-use Rattle.command_words.specs.declared.command.Command.{Command}
-use Rattle.command_words.specs.declared.command.Command.TheVariants.{Solve, Trial}
+use Rattle.match_cli.specs.declared.command.Command.{Command}
+use Rattle.match_cli.specs.declared.command.Command.TheVariants.{Solve, Trial}
 use Rattle.inst_gen.specs.Made.{made}
 use Rattle.check_text.specs.declared.status.Status.{Status}
 use Rattle.check_text.specs.declared.status.Status.TheVariants.{Done}

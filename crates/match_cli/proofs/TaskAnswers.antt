@@ -1,8 +1,8 @@
 -- What a call promises, from the answer of its command.
 use Rattle.mb_problem.proofs.Common.{ℕ, List}
 use Rattle.mb_problem.specs.declared.kind.Kind.{Kind}
-use Rattle.command_words.specs.declared.command.Command.{Command}
-use Rattle.command_words.specs.Commands.{HasRanges}
+use Rattle.match_cli.specs.declared.command.Command.{Command}
+use Rattle.match_cli.specs.Arguments.{HasRanges}
 use Rattle.check_text.specs.declared.status.Status.{Status}
 use Rattle.check_text.specs.declared.status.Status.TheVariants.{Done, Rejected, Usage, Malformed, TooLarge, TooLong, ReadFault, WriteFault, OutOfMemory}
 use Rattle.match_cli.specs.Answers.{Gives}

@@ -1,7 +1,7 @@
 -- What a run tells of an accepted, written or tried document is true.
 use Rattle.graph_theory.proofs.Common.{◌≡◌, ℕ, List, Option, Some, None, IfSome}
-use Rattle.command_words.specs.declared.command.Command.{Command}
-use Rattle.command_words.specs.Commands.{command_of}
+use Rattle.match_cli.specs.declared.command.Command.{Command}
+use Rattle.match_cli.specs.Arguments.{command_of}
 use Rattle.check_text.specs.declared.status.Status.{Status}
 use Rattle.check_text.specs.declared.status.Status.TheVariants.{Done, Rejected, Usage, Malformed, TooLarge, TooLong, ReadFault, WriteFault, OutOfMemory}
 use Rattle.match_cli.specs.Commands.{given}

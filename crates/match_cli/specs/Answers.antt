@@ -18,9 +18,9 @@ use Rattle.check_text.specs.declared.status.Status.TheVariants.{Done, Usage, Mal
 use Rattle.check_text.specs.declared.status.Status.TheVariants.{TooLarge, TooLong}
 use Rattle.check_text.specs.Lines.{malformed_line, too_large_line}
 use Rattle.check_text.specs.Answers.{instance_part, InputHolds, Decides}
-use Rattle.command_words.specs.declared.command.Command.{Command}
-use Rattle.command_words.specs.declared.command.Command.TheVariants.{Check, Solve, Trial}
-use Rattle.command_words.specs.Commands.{command_of}
+use Rattle.match_cli.specs.declared.command.Command.{Command}
+use Rattle.match_cli.specs.declared.command.Command.TheVariants.{Check, Solve, Trial}
+use Rattle.match_cli.specs.Arguments.{command_of}
 use Rattle.inst_gen.specs.Made.{made}
 use Rattle.match_cli.specs.Commands.{limit_of, IsShort}
 use Rattle.match_cli.specs.Solving.{Solves}

@@ -1,8 +1,8 @@
 -- What a call answers to its bytes.
 use Rattle.std.specs.Prelude.{◌≡◌, ℕ, List, []}
 use Rattle.mb_problem.specs.declared.kind.Kind.{Kind}
-use Rattle.command_words.specs.declared.command.Command.{Command}
-use Rattle.command_words.specs.declared.command.Command.TheVariants as command
+use Rattle.match_cli.specs.declared.command.Command.{Command}
+use Rattle.match_cli.specs.declared.command.Command.TheVariants as command
 use Rattle.solve_answers.specs.declared.detail.Detail.TheVariants.{Full, Brief}
 use Rattle.check_text.specs.declared.status.Status.{Status}
 use Rattle.check_text.specs.declared.status.Status.TheVariants.{Usage, ReadFault, WriteFault}

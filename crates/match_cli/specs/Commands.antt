@@ -1,9 +1,9 @@
 -- What a command reads, and which kind it is for.
 use Rattle.std.specs.Prelude.{◌≡◌, ℕ, ◌≤◌, ◌^◌, List, [], length, Option, None, Some, IfSome}
 use Rattle.mb_problem.specs.declared.kind.Kind.{Kind}
-use Rattle.command_words.specs.Commands.{command_of}
-use Rattle.command_words.specs.declared.command.Command.{Command}
-use Rattle.command_words.specs.declared.command.Command.TheVariants.{Check, Solve, Trial}
+use Rattle.match_cli.specs.Arguments.{command_of}
+use Rattle.match_cli.specs.declared.command.Command.{Command}
+use Rattle.match_cli.specs.declared.command.Command.TheVariants.{Check, Solve, Trial}
 
 -- the kind that a command is for
 abbrev pub kind_of : Command → Kind

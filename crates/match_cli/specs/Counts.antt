@@ -10,9 +10,9 @@ use Rattle.mb_problem.specs.Kinds.{searches_of}
 use Rattle.check_text.specs.declared.status.Status.{Status}
 use Rattle.check_text.specs.declared.status.Status.TheVariants.{Done, OutOfMemory}
 use Rattle.check_text.specs.declared.output.Output.{Output}
-use Rattle.command_words.specs.declared.command.Command.{Command}
-use Rattle.command_words.specs.declared.command.Command.TheVariants.{Check, Solve, Trial}
-use Rattle.command_words.specs.Commands.{command_of}
+use Rattle.match_cli.specs.declared.command.Command.{Command}
+use Rattle.match_cli.specs.declared.command.Command.TheVariants.{Check, Solve, Trial}
+use Rattle.match_cli.specs.Arguments.{command_of}
 use Rattle.match_cli.specs.Commands.{kind_of, given}
 use Rattle.match_cli.specs.Answers.{HasInstance}
 

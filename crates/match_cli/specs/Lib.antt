@@ -6,3 +6,7 @@ pub mod Counts
 pub mod Runs
 pub mod Prepared
 pub mod Calls
+pub mod Arguments
+pub mod Form
+pub mod Parts
+pub mod Program

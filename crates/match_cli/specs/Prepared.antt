@@ -4,7 +4,7 @@ use Rattle.check_text.specs.declared.status.Status.{Status}
 use Rattle.check_text.specs.declared.output.Output.{Output}
 use Rattle.match_cli.specs.declared.program.Failure.{Failure}
 use Rattle.match_cli.specs.declared.program.Failure.TheVariants as stop
-use Rattle.command_words.specs.declared.command.Command.{Command}
+use Rattle.match_cli.specs.declared.command.Command.{Command}
 use Rattle.match_cli.specs.Commands.{ReadsUpTo}
 use Rattle.match_cli.specs.Counts.{CountsSearch, CountsSteps}
 use Rattle.match_cli.specs.Runs.{IsAnswer, IsUsage, IsWritten}

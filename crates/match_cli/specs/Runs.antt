@@ -13,9 +13,9 @@ use Rattle.check_text.specs.declared.status.Status.{Status}
 use Rattle.check_text.specs.declared.status.Status.TheVariants.{Done, Rejected, Usage, Malformed}
 use Rattle.check_text.specs.declared.status.Status.TheVariants.{TooLarge, TooLong, ReadFault}
 use Rattle.check_text.specs.declared.status.Status.TheVariants.{WriteFault, OutOfMemory}
-use Rattle.command_words.specs.declared.command.Command.{Command}
-use Rattle.command_words.specs.declared.command.Command.TheVariants.{Check, Solve, Trial}
-use Rattle.command_words.specs.Commands.{command_of}
+use Rattle.match_cli.specs.declared.command.Command.{Command}
+use Rattle.match_cli.specs.declared.command.Command.TheVariants.{Check, Solve, Trial}
+use Rattle.match_cli.specs.Arguments.{command_of}
 use Rattle.inst_gen.specs.Made.{made}
 use Rattle.match_cli.specs.Commands.{kind_of, IsShort, ReadsUpTo, given}
 use Rattle.match_cli.specs.Solving.{Solves}

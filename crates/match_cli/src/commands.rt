@@ -1,15 +1,15 @@
 //! A command: how many bytes it takes, and what it answers to them.
 ghost use Rattle.std.specs.Prelude.{◌≡◌, ◌≤◌, ◌^◌, ◌↔◌, IsTrue, IfOk, IfSome, Some};
-ghost use Rattle.command_words.specs.Commands.{HasRanges};
+ghost use Rattle.match_cli.specs.Arguments.{HasRanges};
 ghost use Rattle.match_cli.specs.Answers.{Answers, Gives};
 ghost use Rattle.match_cli.specs.Commands.{limit_of, IsShort};
 ghost use Rattle.match_cli.specs.Counts.{CountsAnswer, CountsInstance};
 
+use crate::command::Command;
 use crate::limits::{CHECK_BYTE_LIMIT, SOLVE_BYTE_LIMIT};
 use crate::solve::{solve, solve_input};
 use crate::trial::trial;
 use check_text::{Output, check, check_input, too_long};
-use command_words::Command;
 use mb_base::{OutOfMemory, Steps};
 use std::alloc::Global;
 use std::sync::ledger::Ledger;

@@ -1,6 +1,6 @@
 ghost use Rattle.std.specs.Prelude.{◌≡◌, ◌<◌, ◌≤◌, ◌-◌, ◌^◌, length, map, string_bytes, Some, IfOk};
 ghost use Rattle.std.specs.Prelude.{IfErr};
-ghost use Rattle.command_words.specs.Commands.{command_of, HasRanges};
+ghost use Rattle.match_cli.specs.Arguments.{command_of, HasRanges};
 ghost use Rattle.match_cli.specs.Commands.{KeepsUnread};
 ghost use Rattle.match_cli.specs.Answers.{Gives};
 ghost use Rattle.match_cli.specs.Runs.{Runs, CountsRun, TellsTruth, IsAcceptedAgain, Completes};
@@ -8,9 +8,10 @@ ghost use Rattle.match_cli.specs.Counts.{CountsAnswer, CountsInstance, CountsSou
 ghost use Rattle.match_cli.specs.Prepared.{Prepares, PreparesUsage, CountsPrepared, Readies};
 ghost use Rattle.match_cli.specs.Prepared.{CountsPreparedSteps};
 
+use crate::command::Command;
 use crate::commands::{answer_input, limit};
+use crate::read::read_command;
 use check_text::{Output, Status};
-use command_words::{Command, read_command};
 use mb_base::{OutOfMemory, ReadAll, Sink, Source, Steps, read_all, write_all};
 use std::alloc::Global;
 use std::sync::ledger::Ledger;

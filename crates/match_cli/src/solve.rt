@@ -11,14 +11,14 @@ ghost use Rattle.match_cli.specs.Answers.{DecidesSolve};
 ghost use Rattle.match_cli.specs.Counts.{CountsAnswer, CountsInstance};
 ghost use Rattle.match_cli.specs.Solving.{DecidesSized, DecidesFollowed};
 
+use crate::command::Command;
 use check_text::{Output, Status, malformed, too_large};
-use command_words::Command;
 use dimacs_read::{InstanceError, Rest, Rule, read};
 use doc_format::{Document, write};
-use kind_solver::{SolveError, solve_sized};
 use mb_base::{OutOfMemory, Steps};
 use mb_problem::{Instance, Kind};
 use solve_answers::Detail;
+use solve_kinds::{SolveError, solve_sized};
 use std::alloc::{AllocError, Global};
 use std::sync::ledger::Ledger;
 

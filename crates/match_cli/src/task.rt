@@ -1,7 +1,7 @@
 ghost use Rattle.std.specs.Prelude.{◌≡◌};
 ghost use Rattle.match_cli.specs.Calls.{command_for};
 
-use command_words::Command;
+use crate::command::Command;
 use mb_problem::Kind;
 use solve_answers::Detail;
 

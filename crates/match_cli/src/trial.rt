@@ -10,10 +10,10 @@ ghost use Rattle.mwpm_engine.specs.Solutions.{most_steps};
 ghost use Rattle.match_cli.specs.Counts.{CountsAnswer};
 ghost use Rattle.match_cli.specs.Trying.{IsTried, DecidesTrial};
 
+use crate::command::Command;
 use crate::trials::try_instance;
 use certificates::is_within_limits;
 use check_text::{Output, Status, told, too_large};
-use command_words::Command;
 use inst_gen::make;
 use mb_base::{OutOfMemory, Steps};
 use mb_problem::{EDGE_LIMIT, Instance, Kind, VERTEX_LIMIT, gadget_size};

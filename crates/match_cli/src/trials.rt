@@ -14,9 +14,9 @@ ghost use Rattle.solve_answers.specs.Solved.{HasTrueStatus};
 use cert_check::Verdict;
 use check_text::judge_text;
 use doc_format::Document;
-use kind_solver::solve;
 use mb_base::{OutOfMemory, Steps};
 use mb_problem::{Instance, Kind};
+use solve_kinds::solve;
 use std::alloc::Global;
 use std::sync::ledger::Ledger;
 

@@ -2,7 +2,7 @@
 use Rattle.alt_forest.proofs.Common.{◌≡◌, ◌≢◌, ◌∙◌, ℤ, sym, ap, subst, Multigraph, Family, dual_at, IsSound, state_of, is_given, tree_count, IsPlanted, HasTreeNodes}
 use Rattle.alt_forest.specs.declared.search.Search.{Search}
 use Rattle.alt_forest.specs.declared.weights.Weights.{Weights}
-use Rattle.pass_parts.specs.Bounds.{IsBounded}
+use Rattle.search_start.specs.Bounds.{IsBounded}
 use Rattle.mwpm_engine.specs.Passes.{IsSamePass, IsTimed, IsForest}
 use Rattle.mwpm_engine.proofs.BoundedSteps.{KeepsDuals, bounded_kept, same_duals}
 use Rattle.mwpm_engine.proofs.Timed.{timed_same}

@@ -8,7 +8,7 @@ use Rattle.dual_change.specs.Changes.{share, change, applied, IsWithin, StaysInR
 use Rattle.alt_forest.specs.Totals.{dual_total}
 use Rattle.dual_change.proofs.Total.{change_raises}
 use Rattle.dual_change.proofs.Applied.{applied_state}
-use Rattle.pass_parts.specs.Bounds.{IsRaised}
+use Rattle.search_start.specs.Bounds.{IsRaised}
 use Rattle.mwpm_engine.specs.Solutions.{IsWithinBound}
 use Rattle.mwpm_engine.proofs.BoundedTotal.{total_bound, weight_bound}
 

@@ -7,7 +7,7 @@ use Rattle.tree_steps.specs.Expanded.{IsExpanded}
 use Rattle.tree_steps.specs.Shrinkable.{IsShrunk}
 use Rattle.tree_steps.specs.Shrunk.{shrunk_state}
 use Rattle.alt_forest.specs.Totals.{duals_over, dual_total}
-use Rattle.pass_parts.specs.Bounds.{IsBounded}
+use Rattle.search_start.specs.Bounds.{IsBounded}
 use Rattle.mwpm_engine.specs.Solutions.{HasPerfect}
 
 -- a step keeps the duals that stand, or sets them to 0, and their sum

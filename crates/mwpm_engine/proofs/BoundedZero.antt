@@ -6,7 +6,7 @@ use Rattle.alt_forest.proofs.Common.{outermost_parts, vertex_is_node, name_is_no
 use Rattle.dual_change.specs.declared.event.Event.{Event}
 use Rattle.dual_change.specs.declared.event.Event.TheVariants.{Grow, Shrink, Augment, Expand}
 use Rattle.dual_change.specs.Changes.{share, change, applied, IsWithin, StaysInRange, IsPossible}
-use Rattle.pass_parts.specs.Bounds.{HasNoDuals}
+use Rattle.search_start.specs.Bounds.{HasNoDuals}
 
 -- an edge feels nothing where all duals are 0
 across_none : (y : ℕ → ℤ) (bs : List Blossom) (e : Edge) → y e.u ≡ pos 0 → y e.v ≡ pos 0 → ((a : ℕ) → holds (names_of bs) a ≡ true → y a ≡ pos 0) → duals_across y bs e ≡ pos 0

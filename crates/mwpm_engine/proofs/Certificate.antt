@@ -12,8 +12,8 @@ use Rattle.augment.proofs.Counts.{is_edge-true}
 use Rattle.mwpm_engine.specs.declared.outcome.Outcome.{Outcome}
 use Rattle.mwpm_engine.specs.Solutions.{IsSolved, IsWithinBound, AreAscending}
 use Rattle.mwpm_engine.specs.Solving.{sets_at, solution_of, CountsWeights, HasBoundedDuals, IsUnpacked}
-use Rattle.pass_parts.specs.Proving.{proving}
-use Rattle.pass_parts.proofs.ProvingSets.{IsProving, each_proving}
+use Rattle.search_start.specs.Proving.{proving}
+use Rattle.search_start.proofs.ProvingSets.{IsProving, each_proving}
 use Rattle.mwpm_engine.proofs.BoundedDuals.{each_vertex_dual}
 use Rattle.mwpm_engine.proofs.CertificateMates.{length-mate_numbers, mate_kept, matching_same, count_at}
 use Rattle.mwpm_engine.proofs.CertificateSets.{each_known, set_of, few_sets, few_members, nested_sets, IsOf, each_of, sets_listed}

@@ -8,8 +8,8 @@ use Rattle.alt_forest.proofs.Common.{newer_holds_or_misses, members_differ}
 use Rattle.blossom_arena.specs.Slack.{AreListed}
 use Rattle.mwpm_engine.specs.Solutions.{AreAscending, AreNested, member_count}
 use Rattle.mwpm_engine.specs.Solving.{sets_at}
-use Rattle.pass_parts.specs.Proving.{is_proving, proving}
-use Rattle.pass_parts.proofs.ProvingSets.{IsProving, each_proving}
+use Rattle.search_start.specs.Proving.{is_proving, proving}
+use Rattle.search_start.proofs.ProvingSets.{IsProving, each_proving}
 use Rattle.mwpm_engine.proofs.EvenPaths.{new_differ}
 
 -- an older blossom isn't the newest

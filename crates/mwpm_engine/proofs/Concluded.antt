@@ -12,7 +12,7 @@ use Rattle.mwpm_engine.specs.declared.outcome.Outcome.{Outcome}
 use Rattle.mwpm_engine.specs.declared.outcome.Outcome.TheVariants.{Matched, Barrier}
 use Rattle.mwpm_engine.specs.Solutions.{Ends, HasPerfect, IsSolved, IsDecomposedBy, found_mate}
 use Rattle.mwpm_engine.specs.Solving.{mate_numbers, number_or_none, outer_vertices, solution_of}
-use Rattle.pass_parts.specs.Proving.{proving}
+use Rattle.search_start.specs.Proving.{proving}
 use Rattle.mwpm_engine.specs.Passes.{Concludes, HasStuckForest, IsParted}
 use Rattle.mwpm_engine.proofs.Certificate.{solved}
 use Rattle.mwpm_engine.proofs.CertificateMates.{length-mate_numbers, mate_kept, mate_numbers_at, matching_same}

@@ -9,7 +9,7 @@ use Rattle.augment.specs.Matching.{mate_counts}
 use Rattle.gallai_theory.specs.Decomposition.{Alternates, IsEvenPath}
 use Rattle.augment.proofs.Counts.{degree-free}
 use Rattle.mwpm_engine.specs.Alternating.{CanAlternate}
-use Rattle.greedy_start.proofs.FarEnds.{far_differs, far_vertex}
+use Rattle.search_start.proofs.FarEnds.{far_differs, far_vertex}
 use Rattle.mwpm_engine.proofs.MateCounts.{IsKeptTwice, kept_twice, mate_counted, not_counted}
 
 -- a new number at the end

@@ -5,7 +5,7 @@ use Rattle.alt_forest.proofs.Common.{other_end, edge_of-place, number_of-place, 
 use Rattle.augment.specs.Matching.{is_edge, mate_counts, AreVertexMates}
 use Rattle.augment.proofs.Counts.{is_edge-true}
 use Rattle.mwpm_engine.proofs.CertificateMates.{by_mate, count_at}
-use Rattle.greedy_start.proofs.FarEnds.{both_ends}
+use Rattle.search_start.proofs.FarEnds.{both_ends}
 
 -- an edge at a vertex is kept at its other end too
 pub record IsKeptTwice (g : Multigraph) (m : ℕ → Option ℕ) (v e : ℕ) : Type 0 where

@@ -5,7 +5,7 @@ use Rattle.alt_forest.specs.declared.search.Search.{Search}
 use Rattle.search_keys.specs.declared.bounds.EventBounds.{EventBounds}
 use Rattle.search_keys.specs.Looks.{stale_ends}
 use Rattle.mwpm_engine.specs.Solutions.{size_of_graph}
-use Rattle.greedy_start.specs.Sweeps.{start_looks}
+use Rattle.search_start.specs.Sweeps.{start_looks}
 use Rattle.mwpm_engine.specs.Passes.{IsReady, KeepsCounts, Stage, stage_of, augment_account, bounding_account, pass_account, pass_steps, pass_total, shrinks_left}
 use Rattle.mwpm_engine.proofs.StepCounts.{times_le, left_most, among_most, looks_most, some_or_none}
 

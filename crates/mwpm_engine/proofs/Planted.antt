@@ -2,7 +2,7 @@
 use Rattle.alt_forest.proofs.Common.{◌≡◌, ◌≢◌, ◌∙◌, ℕ, ap, sym, subst, IsExposed, IsSound, state_of, IsPlanted, tree_count, HasTreeNodes, nested_of}
 use Rattle.alt_forest.specs.declared.search.Search.{Search}
 use Rattle.augment.proofs.Fewer.{root_counted}
-use Rattle.pass_parts.proofs.PlantedNodes.{IsPlantedFrom}
+use Rattle.search_start.proofs.PlantedNodes.{IsPlantedFrom}
 use Rattle.mwpm_engine.specs.Passes.{IsSamePass, IsReady, IsForest, IsComplete}
 use Rattle.mwpm_engine.proofs.BoundedEvents.{still_bounded}
 use Rattle.mwpm_engine.proofs.Forest.{exposed_root, none_left}

@@ -7,7 +7,7 @@ use Rattle.dual_change.specs.declared.event.Next.{Next}
 use Rattle.dual_change.specs.declared.event.Next.TheVariants.{Grow as NextGrow, Shrink as NextShrink, Augment as NextAugment, Expand as NextExpand, Stuck}
 use Rattle.dual_change.specs.Changes.{applied, IsWithin, IsPossible, IsLeast, IsStuck, IsNext, IsNextWithin, StaysInRange, edge_looks}
 use Rattle.dual_change.proofs.Applied.{applied_state}
-use Rattle.pass_parts.specs.Bounds.{IsBounded}
+use Rattle.search_start.specs.Bounds.{IsBounded}
 use Rattle.mwpm_engine.proofs.BoundedRaised.{raised_in_range}
 use Rattle.mwpm_engine.proofs.BoundedZero.{no_duals_in_range}
 use Rattle.mwpm_engine.proofs.Timed.{timed_applied, clock_fits}

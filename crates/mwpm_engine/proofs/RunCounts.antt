@@ -4,7 +4,7 @@ use Rattle.graph_theory.proofs.Common.{◌≡◌, ◌⊎◌, ℕ, zero, suc, ◌
 use Rattle.graph_theory.proofs.Common.{Bool, true, false, cond, ltb, ⊎_elim, ints, nat_tests, Multigraph, IsGraph, HasNoLoop, handshake-perfect, int_sum_to-same, int_sum_to-pos}
 use Rattle.graph_theory.proofs.Common.{int_sum_to-one, sum_to-most}
 use Rattle.mwpm_engine.specs.Solutions.{HasPerfect, close_steps, most_steps, size_of_graph}
-use Rattle.greedy_start.specs.Sweeps.{start_looks}
+use Rattle.search_start.specs.Sweeps.{start_looks}
 use Rattle.mwpm_engine.specs.Passes.{IsEnough, pass_total}
 use Rattle.mwpm_engine.proofs.StepCounts.{times_le, some_or_none}
 

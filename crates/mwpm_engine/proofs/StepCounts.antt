@@ -9,8 +9,8 @@ use Rattle.dual_change.specs.declared.event.Event.TheVariants.{Grow, Shrink, Aug
 use Rattle.augment.proofs.Joined.{none_entered}
 use Rattle.mwpm_engine.specs.Solutions.{size_of_graph}
 use Rattle.mwpm_engine.specs.Passes.{IsReady, account, steps_to, phase_steps}
-use Rattle.greedy_start.proofs.FarEnds.{ends_differ}
-use Rattle.greedy_start.proofs.FirstTurns.{turn_most}
+use Rattle.search_start.proofs.FarEnds.{ends_differ}
+use Rattle.search_start.proofs.FirstTurns.{turn_most}
 
 -- products
 

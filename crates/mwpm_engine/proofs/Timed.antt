@@ -5,7 +5,7 @@ use Rattle.dual_change.specs.declared.event.Event.{Event}
 use Rattle.dual_change.specs.Changes.{applied, IsWithin, IsPossible}
 use Rattle.alt_forest.specs.Totals.{dual_total}
 use Rattle.dual_change.proofs.Total.{change_raises}
-use Rattle.pass_parts.specs.Bounds.{IsBounded}
+use Rattle.search_start.specs.Bounds.{IsBounded}
 use Rattle.mwpm_engine.specs.Passes.{IsTimed}
 use Rattle.mwpm_engine.proofs.BoundedRaised.{raised_at_most, times_some}
 use Rattle.mwpm_engine.proofs.BoundedZero.{no_change}

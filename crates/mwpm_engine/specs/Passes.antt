@@ -33,10 +33,10 @@ use Rattle.mwpm_engine.specs.declared.outcome.Outcome.{Outcome}
 use Rattle.mwpm_engine.specs.declared.outcome.Outcome.TheVariants.{Matched, Barrier}
 use Rattle.mwpm_engine.specs.declared.phase_end.PhaseEnd.{PhaseEnd}
 use Rattle.mwpm_engine.specs.declared.phase_end.PhaseEnd.TheVariants.{Augmented, Stuck}
-use Rattle.pass_parts.specs.Bounds.{IsBounded}
-pub use Rattle.pass_parts.specs.Ready.{IsReady}
+use Rattle.search_start.specs.Bounds.{IsBounded}
+pub use Rattle.search_start.specs.Ready.{IsReady}
 use Rattle.mwpm_engine.specs.Solutions.{HasPerfect, size_of_graph}
-use Rattle.greedy_start.specs.Sweeps.{start_looks}
+use Rattle.search_start.specs.Sweeps.{start_looks}
 use Rattle.mwpm_engine.specs.Solving.{IsUnpacked, CountsWeights, HasBoundedDuals}
 
 -- the graph, the weights that count and the start are the same

@@ -15,8 +15,8 @@ use Rattle.graph_theory.specs.Duals.{DualSet, AreDuals, dual_value, IsNumber}
 pub use Rattle.graph_theory.specs.Nested.{AreNested, AreAscending}
 use Rattle.graph_theory.specs.Nested.{most_blossoms}
 use Rattle.graph_theory.specs.declared.limits.TheConstants.{WEIGHT_LIMIT}
-pub use Rattle.pass_parts.specs.Bounds.{HasPerfect}
-pub use Rattle.pass_parts.specs.Weights.{AllWeigh}
+pub use Rattle.search_start.specs.Bounds.{HasPerfect}
+pub use Rattle.search_start.specs.Weights.{AllWeigh}
 use Rattle.mwpm_engine.specs.declared.outcome.Outcome.{Outcome}
 use Rattle.mwpm_engine.specs.declared.outcome.Outcome.TheVariants.{Matched, Barrier}
 

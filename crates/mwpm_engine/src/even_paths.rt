@@ -6,7 +6,7 @@ ghost use Rattle.gallai_theory.specs.Decomposition.{IsEvenPath};
 ghost use Rattle.mwpm_engine.specs.Alternating.{CanAlternate};
 
 use base_types::{EdgeId, OutOfMemory, VertexId};
-use pass_parts::{edge_at, kept_edge, push_both};
+use search_start::{edge_at, kept_edge, push_both};
 use std::alloc::Global;
 use weighted_graph::Graph;
 

@@ -18,6 +18,6 @@ pub use blossom_arena::Members;
 pub use engine::Engine;
 pub use law::laws;
 pub use outcome::Outcome;
-pub use pass_parts::start_duals;
 pub use phase_end::PhaseEnd;
 pub use phases::phase;
+pub use search_start::start_duals;

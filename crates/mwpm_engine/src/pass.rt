@@ -12,8 +12,8 @@ use alt_forest::Search;
 use augment::join_bounding;
 use base_types::Steps;
 use dual_change::Event;
-use pass_parts::plant_all_bounding;
 use search_keys::EventBounds;
+use search_start::plant_all_bounding;
 use std::sync::ledger::Ledger;
 
 /// Makes an event happen. An augment takes the two trees away that it joins, and all others stay.

@@ -12,8 +12,8 @@ use crate::pass::pass;
 use alt_forest::{Search, Weights};
 use augment::unpack;
 use base_types::Steps;
-use pass_parts::{common_weight, least_weight, start_pass, weigh};
 use search_keys::EventBounds;
+use search_start::{common_weight, least_weight, start_pass, weigh};
 use std::sync::ledger::Ledger;
 
 /// A pass from the beginning, with duals and mates to start with, whose blossoms are opened at its

@@ -12,3 +12,7 @@ pub mod Settling
 mod Circuits
 pub mod Searches
 mod SearchedGraphs
+mod Heaviest
+pub mod DualFreeForms
+mod SettlingLightest
+mod Outer

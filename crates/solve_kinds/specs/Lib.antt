@@ -1,1 +1,4 @@
 pub mod Presented
+pub mod Lightest
+pub mod Greatest
+pub mod Sized

@@ -17,12 +17,11 @@ ghost use Rattle.solve_answers.specs.Stands.{HasFewSteps};
 ghost use Rattle.solve_kinds.specs.Presented.{Presents, PresentsBriefly, PresentsFor};
 
 use doc_format::{DocStatus, Document, Head};
-use document_lines::{count_lines, walk_line};
+use document_lines::{count_lines, dual_lines, set_lines, walk_line};
 use least_joins::matching;
 use mb_base::{OutOfMemory, Sequence};
 use mb_problem::{Answer, Instance, Kind, weight};
 use mwpm_engine::Engine;
-use outcome_lines::{dual_lines, set_lines};
 use solve_answers::{Detail, answer};
 use std::alloc::Global;
 use weighted_graph::Graph;

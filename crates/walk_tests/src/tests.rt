@@ -1,5 +1,11 @@
+mod changes;
+mod draws;
 mod even_paths;
+mod families;
+mod forests;
+mod guesses;
 mod instances;
+mod joins;
 mod odd_joins;
 mod parts;
 mod tours;

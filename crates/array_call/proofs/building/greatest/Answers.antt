@@ -1,5 +1,5 @@
 use Rattle.certificates.proofs.Common.{List, length, map, All, Some, sym, ap, ◌∙◌, subst, CountLine, PathLine, Body, blank, ascends, AscendsBy}
-use Rattle.kind_solver.proofs.Forms.{form-greatest}
+use Rattle.solve_kinds.proofs.DualFreeForms.{form-greatest}
 use Rattle.doc_format.proofs.OnePartMore.{formed-as}
 use Rattle.array_call.specs.Sheets.{IsCountOn}
 use Rattle.array_call.proofs.building.greatest.Goals as goal

@@ -1,5 +1,5 @@
 use Rattle.certificates.proofs.Common.{◌≡◌, true, List, length, All, Option, Some, sym, subst, rules, CountLine, MemberLine, Body, blank, ascends, AscendsBy}
-use Rattle.kind_solver.proofs.Forms.{form-lightest}
+use Rattle.solve_kinds.proofs.DualFreeForms.{form-lightest}
 use Rattle.doc_format.proofs.OnePartMore.{formed-as}
 use Rattle.array_call.specs.Sheets.{IsCountOn}
 use Rattle.array_call.proofs.building.lightest.Goals as goal

@@ -1,6 +1,6 @@
 use Rattle.mb_problem.proofs.Common.{sym, subst}
-use Rattle.command_words.specs.declared.command.Command.{Command}
-use Rattle.command_words.specs.Commands.{HasRanges}
+use Rattle.match_cli.specs.declared.command.Command.{Command}
+use Rattle.match_cli.specs.Arguments.{HasRanges}
 use Rattle.match_cli.specs.Answers.{Gives}
 use Rattle.match_cli.proofs.Decided.{tells_true}
 use Rattle.match_cli.proofs.AcceptedAgain.{accepted_behind}

@@ -1,5 +1,5 @@
 use Rattle.graph_theory.proofs.Common.{◌≡◌, ◌∙◌, [], Some, None, map, sym, string_bytes}
-use Rattle.command_words.specs.Commands.{command_of}
+use Rattle.match_cli.specs.Arguments.{command_of}
 use Rattle.match_cli.specs.Commands.{limit_of, ReadsUpTo}
 use Rattle.match_cli.proofs.Prepares.{answered_reading, counted-reading, counted-unread, none-counted, too_long}
 use Rattle.match_cli.proofs.program.prepare.Goals as goal

@@ -1,6 +1,6 @@
 use Rattle.certificates.proofs.Common.{◌≡◌, ℕ, ◌+◌, ◌*◌, ◌≤◌, List, subst, IfOk, document_text, IsWithinLimits, size_of, searches_of}
 use Rattle.mwpm_engine.specs.Solutions.{most_steps}
-use Rattle.command_words.specs.declared.command.Command.TheVariants.{Solve}
+use Rattle.match_cli.specs.declared.command.Command.TheVariants.{Solve}
 use Rattle.solve_answers.specs.Details.{is_brief}
 use Rattle.match_cli.specs.Solving.{Solves}
 use Rattle.match_cli.proofs.SolveAnswers.{sized_answers}

@@ -1,5 +1,5 @@
 use Rattle.mb_problem.proofs.Common.{◌+◌, ◌*◌, ◌≤◌, rules, subst, IfOk, IsWithinLimits, Network, size_of, searches_of}
-use Rattle.command_words.specs.declared.command.Command.TheVariants.{Trial}
+use Rattle.match_cli.specs.declared.command.Command.TheVariants.{Trial}
 use Rattle.mwpm_engine.specs.Solutions.{most_steps}
 use Rattle.match_cli.specs.Trying.{DecidesTrial}
 use Rattle.match_cli.proofs.StepCounts.{within_limits, done_counts}

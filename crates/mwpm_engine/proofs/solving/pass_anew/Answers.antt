@@ -11,7 +11,7 @@ use Rattle.mwpm_engine.proofs.CertificateRuns.{unpacked}
 use Rattle.mwpm_engine.proofs.CommonWeight.{unpacked_zero}
 use Rattle.mwpm_engine.proofs.Parted.{parted}
 use Rattle.mwpm_engine.specs.Passes.{EndsPass, HasStuckForest, IsParted, pass_steps}
-use Rattle.greedy_start.specs.Sweeps.{start_looks}
+use Rattle.search_start.specs.Sweeps.{start_looks}
 use Rattle.mwpm_engine.specs.Solutions.{HasPerfect, size_of_graph}
 use Rattle.mwpm_engine.specs.Solving.{IsUnpacked}
 use Rattle.mwpm_engine.proofs.solving.pass_anew.Goals as goal

@@ -3,7 +3,7 @@ use Rattle.std.specs.Prelude.{IfSome, IfNone}
 use Rattle.alt_forest.specs.declared.search.Search.{Search}
 use Rattle.alt_forest.specs.declared.weights.Weights.TheVariants.{Given, Zero}
 use Rattle.augment.specs.Matching.{mate_counts}
-use Rattle.pass_parts.specs.Weights.{HasTwoWeights, IsFirstOther}
+use Rattle.search_start.specs.Weights.{HasTwoWeights, IsFirstOther}
 use Rattle.mwpm_engine.specs.declared.outcome.Outcome.TheVariants.{Matched, Barrier}
 use Rattle.mwpm_engine.specs.Solving.{IsUnpacked}
 use Rattle.mwpm_engine.specs.Solutions.{AllWeigh, HasPerfect}

@@ -1,4 +1,0 @@
-use Rattle.command_words.proofs.parse.solve.Goals as goal
-
-pub returns : goal.returns
-returns c = c.with_argument.ensures _ _ c.brief.ensures (c.with_wanted-solve.ensures _ (c.new.ensures.app, c.new.ensures.local))

@@ -1,6 +1,0 @@
-use Rattle.mb_problem.proofs.Common.{map, string_bytes, IfOk-weaker}
-use Rattle.command_words.proofs.Ranges.{found_ranges}
-use Rattle.command_words.proofs.read.read_command.Goals as goal
-
-pub returns-clause-ranges : goal.returns-clause-ranges
-returns-clause-ranges c = IfOk-weaker c.read_words.result _ _ (λ o is. found_ranges (map string_bytes c.as_slice.result.now) o is) c.read_words.ensures

@@ -1,4 +1,0 @@
-pub mod Commands
-pub mod Form
-pub mod Parts
-pub mod Program

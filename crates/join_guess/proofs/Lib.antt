@@ -1,2 +1,0 @@
-pub mod PairedUp
-pub mod PortCounts

@@ -1,9 +1,0 @@
-use Rattle.graph_theory.proofs.Common.{◌≡◌}
-use Rattle.join_guess.specs.PairedUp.{IsPairedUp}
-use Rattle.join_guess.proofs.pair_graph.add_others.Given as goal
-
-abbrev pub invariant-loop-pair : goal.invariant-loop-pair
-invariant-loop-pair l = record {
-  paired : IsPairedUp l.twos l.graph;
-  vertices : l.graph.vertices ≡ l.initial.graph.vertices;
-}

@@ -1,6 +1,0 @@
-mod changes;
-mod draws;
-mod families;
-mod forests;
-mod guesses;
-mod joins;

@@ -1,4 +1,0 @@
-mod Heaviest
-pub mod Forms
-mod Settling
-mod Outer

@@ -1,3 +1,0 @@
-pub mod Lightest
-pub mod Greatest
-pub mod Sized

@@ -1,4 +1,0 @@
-pub mod ProvingSets
-pub mod BoundedStarts
-pub mod PlantedNodes
-pub mod Weighed

@@ -1,4 +1,0 @@
-pub mod Weights
-pub mod Proving
-pub mod Bounds
-pub mod Ready

@@ -1,0 +1,4 @@
+use Rattle.program_tests.proofs.tests.kinds.greatest_document.Given as goal
+
+abbrev pub ghosts-document_of : goal.ghosts-document_of
+ghosts-document_of g a = record { name = a.blank.name; parts = a.blank.parts }

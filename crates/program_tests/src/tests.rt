@@ -1,0 +1,10 @@
+mod agreement;
+mod bytes;
+mod devices;
+mod documents;
+mod instances;
+mod kinds;
+mod rows;
+mod runs;
+mod solvers;
+mod streams;

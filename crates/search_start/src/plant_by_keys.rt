@@ -1,0 +1,54 @@
+ghost use Rattle.std.specs.Prelude.{◌≡◌, ◌≢◌, ◌≤◌, ◌+◌, MatchBool};
+ghost use Rattle.alt_forest.specs.Searches.{IsSound, state_of};
+ghost use Rattle.alt_forest.specs.Counts.{exposed_count, tree_count, IsPlanted};
+ghost use Rattle.alt_forest.specs.Entries.{looks_left};
+ghost use Rattle.alt_forest.specs.TreeNodes.{HasTreeNodes};
+ghost use Rattle.search_keys.specs.Bounds.{IsBounding};
+ghost use Rattle.search_keys.specs.Looks.{stale_ends};
+ghost use Rattle.search_start.specs.Ready.{IsReady};
+
+use crate::exposed::is_exposed;
+use alt_forest::Search;
+use base_types::Steps;
+use blossom_arena::NodeId;
+use search_keys::{EventBounds, plant};
+use std::sync::ledger::Ledger;
+
+/// Makes every exposed node the root of a tree of its own, and answers whether there is one. No
+/// tree stands before.
+pub fn plant_all_bounding<L: Ledger>(
+    search: &mut Search,
+    bounds: &mut EventBounds,
+    steps: &mut Steps<L>,
+) -> bool
+    requires well_formed { IsReady search.old }
+    requires vertex_keys { IsBounding search.old bounds.old }
+    ensures sound { IsSound search.new }
+    ensures vertex_keys { IsBounding search.new bounds.new }
+    ensures listed { HasTreeNodes search.new }
+    ensures frame { search.new ≡ record search.old {
+      arena = record search.old.arena { motions = search.new.arena.motions };
+      labels = search.new.labels;
+      queue = search.new.queue;
+      tree_nodes = search.new.tree_nodes;
+      scanned = search.new.scanned;
+    } }
+    ensures all_rooted { IsPlanted (state_of search.new) }
+    ensures trees { MatchBool result (tree_count (state_of search.new) ≢ 0)
+        (tree_count (state_of search.new) ≡ 0) }
+    ensures exposed { exposed_count (state_of search.new) ≡ exposed_count (state_of search.old) }
+    ensures inspections { steps.new + looks_left (state_of search.new)
+        ≤ steps.old + looks_left (state_of search.old) }
+    ensures stale { stale_ends search.new bounds.new ≤ stale_ends search.old bounds.old }
+{
+    let mut some = false;
+    for place in 0..search.arena.node_limit() {
+        let node = NodeId::new(place + 1);
+        if !is_exposed(search, node) {
+            continue;
+        }
+        plant(search, bounds, node, steps);
+        some = true;
+    }
+    some
+}

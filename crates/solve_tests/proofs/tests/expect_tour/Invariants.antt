@@ -1,4 +1,0 @@
-use Rattle.solve_tests.proofs.tests.expect_tour.Given as goal
-
-abbrev pub ghosts-document_of : goal.ghosts-document_of
-ghosts-document_of g a = record { name = a.blank.name; parts = a.blank.parts }

@@ -1,4 +1,0 @@
-use Rattle.text_tests.proofs.tests.runs.leaves.Given as goal
-
-abbrev pub ghosts-count_left : goal.ghosts-count_left
-ghosts-count_left a = record { name = a.blank.name; parts = a.blank.parts }

@@ -1,6 +1,0 @@
-mod bytes;
-mod devices;
-mod documents;
-mod instances;
-mod runs;
-mod streams;
