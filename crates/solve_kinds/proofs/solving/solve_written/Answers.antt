@@ -28,7 +28,13 @@ returns-in-LighterBarrier g c =
     let full = IfOk-weaker r (SettlesBare kind i) (SettlesFor detail kind i) (settles-for detail kind i) e.settled in
     let never = subst (λ (k : Kind). is_tested_first k ≡ false) (only-bottleneck kind (sym c.in-LighterBarrier.ensures)) refl in
     let no-duals = ap are_duals (sym c.in-LighterBarrier.ensures) in
-    record { written = IfOk-weaker r _ _ (written-for detail kind i) full; settled = full; steps = e.steps; once = λ duals zero. absurd (true≢false (sym duals ∙ no-duals)); unsearched = idle kind _ r never }
+    record {
+      written = IfOk-weaker r _ _ (written-for detail kind i) full;
+      settled = full;
+      steps = e.steps;
+      once = λ duals zero. absurd (true≢false (sym duals ∙ no-duals));
+      unsearched = idle kind _ r never;
+    }
 
 pub returns-in-OuterPaths : goal.returns-in-OuterPaths
 returns-in-OuterPaths g c =
@@ -40,4 +46,10 @@ returns-in-OuterPaths g c =
     let full = IfOk-weaker r (SettlesBare kind i) (SettlesFor detail kind i) (settles-for detail kind i) e.settled in
     let never = subst (λ (k : Kind). is_tested_first k ≡ false) (only-gallai kind (sym c.in-OuterPaths.ensures)) refl in
     let no-duals = ap are_duals (sym c.in-OuterPaths.ensures) in
-    record { written = IfOk-weaker r _ _ (written-for detail kind i) full; settled = full; steps = e.steps; once = λ duals zero. absurd (true≢false (sym duals ∙ no-duals)); unsearched = idle kind _ r never }
+    record {
+      written = IfOk-weaker r _ _ (written-for detail kind i) full;
+      settled = full;
+      steps = e.steps;
+      once = λ duals zero. absurd (true≢false (sym duals ∙ no-duals));
+      unsearched = idle kind _ r never;
+    }
