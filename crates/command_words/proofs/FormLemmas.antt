@@ -153,8 +153,8 @@ formless [] h = refl
 formless (first ∷ []) h = refl
 formless (first ∷ a ∷ []) h = refl
 formless (first ∷ a ∷ k ∷ []) h = two_none (bytes_eq a (codes "solve")) (bytes_eq a (codes "check")) (is_operand k) (solve_named Full k) (check_named k) (no_solve Full k) (no_check k) h
-formless (first ∷ a ∷ b ∷ d ∷ []) h = three_none (bytes_eq a (codes "solve")) (is_operand b) (bytes_eq d (codes "--brief")) (bytes_eq b (codes "--brief")) (is_operand d) (solve_named Brief b)
-    (solve_named Brief d) (no_solve Brief b) (no_solve Brief d) h
+formless (first ∷ a ∷ b ∷ d ∷ []) h = three_none (bytes_eq a (codes "solve")) (is_operand b) (bytes_eq d (codes "--brief")) (bytes_eq b (codes "--brief")) (is_operand d)
+    (solve_named Brief b) (solve_named Brief d) (no_solve Brief b) (no_solve Brief d) h
 formless (first ∷ a ∷ b ∷ d ∷ e ∷ []) h = refl
 formless (first ∷ a ∷ k ∷ s ∷ n ∷ m ∷ []) h = five_none (bytes_eq a (codes "trial")) k s n m h
 formless (first ∷ a ∷ b ∷ d ∷ e ∷ f ∷ g ∷ more) h = refl
