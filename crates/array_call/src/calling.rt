@@ -97,7 +97,8 @@ fn solved(
     document: &Document,
 ) -> Result<ArrayAnswer, OutOfMemory>
     requires answerable { IsAnswerable kind (arrays_of arrays.now) }
-    requires settles { SettlesFor detail kind (network_of kind (arrays_of arrays.now)) document.now }
+    requires settles { SettlesFor detail kind (network_of kind (arrays_of arrays.now))
+        document.now }
     ensures { IfOk result (λ a. Gives detail kind (arrays_of arrays.now) a.numbers.items a.status) }
 {
     let numbers = numbers_of(alloc, kind, arrays.from.len(), detail, document)?;
