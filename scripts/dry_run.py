@@ -1,13 +1,18 @@
 #!/usr/bin/env python3
-"""Plants a dummy kind in a copy of the repository, and prints the files of crates that it touches.
+"""Plants a dummy in a copy of the repository, and prints the files of crates that it touches.
 
 Usage: dry_run.py kind [--own-gadget] [--prove CRATE ..] [--keep FOLDER]
+       dry_run.py option [--prove CRATE ..] [--keep FOLDER]
 
 The dummy answers as `bmatch` does; with --own-gadget its certificate graph has a form of its own,
 built as that of `bmatch`. The compiler names each table in code that lacks a row, one at a time;
 the script plants the row and compiles again. It then plants the rows of specs/ and proofs/, as
 copies of those of `bmatch`, and prints all files that it changed and their number. This takes
 about five minutes.
+
+The dummy option is a value of `Detail` that leaves out the certificate as `Brief` does, with a
+number for C. Its flag on the command line isn't planted: docs/EXTENDING.md lists the files of
+`command_words` that have `--brief`.
 
 With --prove it has the prover check these crates of the copy, lowest first: `mb_problem` takes five
 minutes with the crates below it, `solve_answers` three quarters of an hour. If they are proved,
@@ -25,6 +30,7 @@ ERROR = re.compile(r"^(\S+?\.rt):(\d+):\d+: error\[non-exhaustive-match\]", re.M
 # An enum, the variant whose rows are copied, and the dummy.
 KIND = "Kind", "BMatch", "Dummy"
 FORM = "GadgetForm", "Copies", "Dummied"
+DETAIL = "Detail", "Brief", "Dummy"
 
 # What of a dummy isn't a copy of another kind's row, as its name: file, the row before it, its row.
 OWN_ROWS = [
@@ -68,6 +74,26 @@ LIKE_BMATCH = """like_first Dummy = record {
 }
 """
 LIKE_ITSELF = "like_first Dummy = record { gadget = refl; answers = read_as_itself Dummy refl }\n"
+# What of a dummy option isn't a copy of the row of `Brief`, as OWN_ROWS.
+OPTION_ROWS = [
+    ("solve_answers/src/detail.rt", "    Brief,\n", "    /// A dummy.\n    Dummy,\n"),
+    (
+        "blossom_c/src/call_numbers.rt",
+        "        2 => Some(Detail::Brief),\n",
+        "        4 => Some(Detail::Dummy),\n",
+    ),
+    (
+        "blossom_c/specs/ArrayEndings.antt",
+        "number_of_solving Brief = 2\n",
+        "number_of_solving Dummy = 4\n",
+    ),
+    (
+        "blossom_c/proofs/Rooms.antt",
+        "(let same : number_of_solving Full ≡ number_of_solving Brief = solving ∙ brief in cc)\n",
+        "never-short task kind a before after used (Dummy, _, solving, _, _) brief room = absurd "
+        "(let same : number_of_solving Dummy ≡ number_of_solving Brief = solving ∙ brief in cc)\n",
+    ),
+]
 # Lines of a definition that aren't rows to copy.
 OTHER_LINES = "pub abbrev use record like_first first_with kind_text kind_number".split()
 # Chains of tests, each with one more at its end.
@@ -170,6 +196,7 @@ class Copy:
         done = subprocess.run(
             ["rt", "try", "--", "--help"],
             cwd=os.path.join(self.top, "crates", "blossom"),
+            stdin=subprocess.DEVNULL,
             stdout=subprocess.PIPE,
             stderr=subprocess.STDOUT,
             text=True,
@@ -236,7 +263,23 @@ def prove(copy, crates):
             sys.exit(f"{crate}: not proved")
 
 
+def run_option(words, folder):
+    copy = copied(folder)
+    for path, before, row in OPTION_ROWS:
+        copy.replace(path, before, before + row)
+    for path in ("blossom_c/specs/ArrayEndings.antt", "blossom_c/proofs/Rooms.antt"):
+        copy.change(path, lambda text: imported(text, *DETAIL[1:]))
+    copy.plant_code([DETAIL])
+    for folder in ("solve_answers/specs", "solve_kinds/proofs", "array_call/proofs"):
+        copy.plant_clauses(folder, [DETAIL])
+    prove(copy, words.prove)
+    print("\n".join(copy.changed))
+    print(len(copy.changed), "files")
+
+
 def run(words, folder):
+    if words.what == "option":
+        return run_option(words, folder)
     copy = copied(folder)
     own = words.own_gadget
     enums = [KIND, FORM] if own else [KIND]
@@ -258,7 +301,7 @@ def run(words, folder):
 
 def main():
     parser = argparse.ArgumentParser(description=__doc__.split("\n")[0])
-    parser.add_argument("what", choices=["kind"])
+    parser.add_argument("what", choices=["kind", "option"])
     parser.add_argument("--own-gadget", action="store_true", help="a form of certificate graph too")
     parser.add_argument("--prove", nargs="*", default=[], metavar="CRATE", help="crates to prove")
     parser.add_argument("--keep", metavar="FOLDER", help="make the copy there, and leave it")
