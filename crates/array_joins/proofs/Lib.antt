@@ -6,4 +6,3 @@ mod Layouts
 pub mod Sizes
 mod Answered
 pub mod PairedUp
-pub mod PortCounts

@@ -14,6 +14,7 @@ ghost use Rattle.array_joins.specs.Outcomes.{steps_by, set_steps, all_steps};
 use crate::guessed::guessed_join;
 use crate::marking::{mark, unmark};
 use crate::outcome::{SetOutcome, TerminalFault};
+use crate::rounds::GuessTables;
 use crate::sets::set_at;
 use crate::weighing::weight_of;
 use certificates::is_within_limits;
@@ -63,17 +64,23 @@ fn answer_by_search<L: Ledger>(
     Ok(joined(instance, join))
 }
 
-/// The answer within the limits: a join that is guessed and proved, or else that of a search.
+/// The answer within the limits: a join that is guessed and proved, or else that of a search. The
+/// size is that of the graph of ports.
 fn answer_within<L: Ledger>(
     alloc: Global,
     instance: &Instance,
+    tables: &mut GuessTables,
+    size: (u64, u64),
     steps: &mut Steps<L>,
 ) -> Result<SetOutcome, OutOfMemory>
-    requires { IsWithinLimits (join_size instance.now) }
+    requires limits { IsWithinLimits (join_size instance.now) }
+    requires vertices { size.0 ≡ (join_size instance.now).vertices }
+    requires edges { size.1 ≡ (join_size instance.now).edges }
     ensures answer { IfOk result (AnswersMarked None instance.now) }
     ensures steps { steps.new ≤ steps.old + most_steps (join_size instance.now) }
 {
-    if let Some(join) = guessed_join(alloc, instance, &Parity::Values, steps)? {
+    let parity = Parity::Values;
+    if let Some(join) = guessed_join(alloc, tables, instance, &parity, size, steps)? {
         return Ok(joined(instance, join));
     }
     answer_by_search(alloc, instance, steps)
@@ -83,6 +90,7 @@ fn answer_within<L: Ledger>(
 fn answer<L: Ledger>(
     alloc: Global,
     instance: &Instance,
+    tables: &mut GuessTables,
     steps: &mut Steps<L>,
 ) -> Result<SetOutcome, OutOfMemory>
     ensures answer { IfOk result (AnswersMarked None instance.now) }
@@ -92,7 +100,7 @@ fn answer<L: Ledger>(
     if !is_within_limits(vertices, edges) {
         return Ok(SetOutcome::TooLarge);
     }
-    answer_within(alloc, instance, steps)
+    answer_within(alloc, instance, tables, (vertices, edges), steps)
 }
 
 /// The answer to terminals with this first fault, if there is one.
@@ -100,6 +108,7 @@ fn answer_unless<L: Ledger>(
     alloc: Global,
     instance: &Instance,
     fault: Option<TerminalFault>,
+    tables: &mut GuessTables,
     steps: &mut Steps<L>,
 ) -> Result<SetOutcome, OutOfMemory>
     ensures answer { IfOk result (AnswersMarked fault instance.now) }
@@ -107,7 +116,7 @@ fn answer_unless<L: Ledger>(
 {
     match fault {
         Some(fault) => Ok(SetOutcome::Faulty(fault)),
-        None => answer(alloc, instance, steps),
+        None => answer(alloc, instance, tables, steps),
     }
 }
 
@@ -116,6 +125,7 @@ fn answer_set<L: Ledger>(
     alloc: Global,
     instance: &mut Instance,
     terminals: &[u32],
+    tables: &mut GuessTables,
     steps: &mut Steps<L>,
 ) -> Result<SetOutcome, OutOfMemory>
     requires bare { HasNoTerminals instance.old }
@@ -125,12 +135,35 @@ fn answer_set<L: Ledger>(
     ensures unchanged { instance.new ≡ instance.old }
 {
     let fault = mark(instance, terminals);
-    let outcome = answer_unless(alloc, instance, fault, steps);
+    let outcome = answer_unless(alloc, instance, fault, tables, steps);
     unmark(instance, terminals);
     outcome
 }
 
-/// The answer to each set of terminals.
+/// The answer to each set of terminals, with tables of the graph.
+fn answer_each<L: Ledger>(
+    alloc: Global,
+    instance: &mut Instance,
+    starts: &[u32],
+    terminals: &[u32],
+    tables: &mut GuessTables,
+    steps: &mut Steps<L>,
+) -> Result<Vec<SetOutcome>, OutOfMemory>
+    requires bare { HasNoTerminals instance.old }
+    requires starts { starts_fault starts.now (length terminals.now) ≡ None }
+    ensures answers { IfOk result (λ v.
+        AnswersEach instance.old (terminal_sets starts.now terminals.now) v.items) }
+    ensures steps { steps.new ≤ steps.old + all_steps instance.old starts.now terminals.now }
+{
+    let mut outcomes = Vec::with_capacity(alloc, starts.len() - 1)?;
+    for k in 0..starts.len() - 1 {
+        let set = set_at(starts, terminals, k);
+        outcomes.push(answer_set(alloc, instance, set, tables, steps)?)?;
+    }
+    Ok(outcomes)
+}
+
+/// The answer to each set of terminals. The tables of the graph are made once.
 pub(crate) fn answer_all<L: Ledger>(
     alloc: Global,
     instance: &mut Instance,
@@ -144,10 +177,8 @@ pub(crate) fn answer_all<L: Ledger>(
         AnswersEach instance.old (terminal_sets starts.now terminals.now) v.items) }
     ensures steps { steps.new ≤ steps.old + all_steps instance.old starts.now terminals.now }
 {
-    let mut outcomes = Vec::with_capacity(alloc, starts.len() - 1)?;
-    for k in 0..starts.len() - 1 {
-        let set = set_at(starts, terminals, k);
-        outcomes.push(answer_set(alloc, instance, set, steps)?)?;
-    }
-    Ok(outcomes)
+    let mut tables = GuessTables::new(alloc, instance, &Parity::Values)?;
+    let outcomes = answer_each(alloc, instance, starts, terminals, &mut tables, steps);
+    tables.release();
+    outcomes
 }

@@ -10,6 +10,7 @@
 
 mod arcs;
 mod calling;
+mod clusters;
 mod forest;
 mod found;
 mod guessed;
@@ -32,8 +33,10 @@ mod sets;
 mod shown;
 mod spread;
 mod table;
+mod trees;
 mod weighing;
 
 pub use calling::joins_to;
 pub use guessed::guessed_join;
 pub use outcome::{SetOutcome, TerminalFault, TerminalRule};
+pub use rounds::GuessTables;

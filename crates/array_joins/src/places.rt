@@ -20,6 +20,45 @@ pub(crate) fn outside() -> Place {
     Place { node: 0, height: 0 }
 }
 
+/// The places of vertices.
+#[derive(Drop)]
+pub(crate) struct Places {
+    /// By vertex, from 1.
+    places: Vec<Place>,
+    /// The vertices whose places have been noted.
+    pub inside: Vec<VertexId>,
+}
+
+impl Places {
+    /// The places of so many vertices, all outside.
+    pub fn new(alloc: Global, vertices: u32) -> Result<Places, OutOfMemory> {
+        Ok(Places {
+            places: vec![in alloc; outside(); vertices as usize + 1]?,
+            inside: Vec::new(alloc),
+        })
+    }
+
+    /// The place of a vertex.
+    pub fn at(&self, vertex: VertexId) -> Place {
+        item_at(&self.places, vertex.number(), outside())
+    }
+
+    /// Notes the place of a vertex.
+    fn note(&mut self, vertex: VertexId, place: Place) -> Result<(), OutOfMemory> {
+        set_item(&mut self.places, vertex.number(), place);
+        self.inside.push(vertex)?;
+        Ok(())
+    }
+
+    /// Puts all vertices outside, in time linear in those whose places have been noted.
+    fn clear(&mut self) {
+        for vertex in &self.inside {
+            set_item(&mut self.places, vertex.number(), outside());
+        }
+        self.inside.clear();
+    }
+}
+
 /// Lets a search start from each leaf, at the height of its node.
 fn start_all(spread: &mut Spread, forest: &Forest, leaves: &Leaves) -> Result<(), OutOfMemory> {
     for place in 0..leaves.count {
@@ -31,12 +70,12 @@ fn start_all(spread: &mut Spread, forest: &Forest, leaves: &Leaves) -> Result<()
 }
 
 /// The place of a vertex that a search has come to, from that of the vertex before.
-fn place_of(places: &[Place], spread: &Spread, forest: &Forest, vertex: VertexId) -> Place {
+fn place_of(places: &Places, spread: &Spread, forest: &Forest, vertex: VertexId) -> Place {
     let reach = spread.reach(vertex);
     let below = if reach.edge.number() == 0 {
         forest.leaf(reach.leaf)
     } else {
-        item_at(places, reach.from.number(), outside()).node
+        places.at(reach.from).node
     };
     let node = forest.climb(below, reach.height);
     if node == 0 {
@@ -48,23 +87,24 @@ fn place_of(places: &[Place], spread: &Spread, forest: &Forest, vertex: VertexId
     }
 }
 
-/// The places of all vertices. It leaves the search as it ended, with how each vertex is reached.
-pub(crate) fn places_of(
-    alloc: Global,
+/// Finds the places of all vertices. It leaves the search as it ended, with how each vertex is
+/// reached.
+pub(crate) fn find_places(
+    places: &mut Places,
     arcs: &Arcs,
     leaves: &Leaves,
     forest: &Forest,
     spread: &mut Spread,
-) -> Result<Vec<Place>, OutOfMemory> {
-    let mut places = vec![in alloc; outside(); leaves.numbers.len()]?;
+) -> Result<(), OutOfMemory> {
+    places.clear();
     start_all(spread, forest, leaves)?;
     for _ in 0..leaves.numbers.len() {
         let Some(vertex) = spread.settle() else {
             break;
         };
-        let place = place_of(&places, spread, forest, vertex);
-        set_item(&mut places, vertex.number(), place);
+        let place = place_of(places, spread, forest, vertex);
+        places.note(vertex, place)?;
         spread.follow(arcs, vertex, 0)?;
     }
-    Ok(places)
+    Ok(())
 }

@@ -4,16 +4,17 @@ ghost use Rattle.std.specs.Prelude.{◌*◌, ◌≤◌, ◌+◌};
 use crate::arcs::Arcs;
 use crate::forest::{Forest, forest_of};
 use crate::found::Found;
-use crate::leaves::{Leaves, leaves_of};
+use crate::leaves::{Leaves, odd_by_edges};
 use crate::levels::levels_of;
 use crate::neighbours::add_neighbours;
 use crate::pairs::{Pair, add_near_pairs, distinct};
-use crate::paths::{join_of, use_paths, used_length};
-use crate::places::{Place, places_of};
+use crate::paths::{Paths, use_paths};
+use crate::places::{Places, find_places};
 use crate::pricing::add_short_pairs;
 use crate::searching::search;
-use crate::shown::{is_shown, total_of};
+use crate::shown::{is_balanced, meet_all, total_of};
 use crate::spread::Spread;
+use crate::trees::Trees;
 use join_check::Levels;
 use mb_base::{EdgeId, OutOfMemory, Steps};
 use mb_problem::{Instance, Parity};
@@ -43,45 +44,97 @@ const NEAR: u32 = 4;
 /// How many rounds there are at most.
 const ROUNDS: u32 = 6;
 
-/// What rounds keep.
+/// What guesses on one graph use: tables of the graph, made once, and those of a set of leaves.
 #[derive(Drop)]
-pub(crate) struct Work {
+pub struct GuessTables {
     alloc: Global,
     arcs: Arcs,
+    trees: Trees,
+    /// By vertex: whether the edges alone make a join have odd degree there.
+    odd: Vec<bool>,
+    /// Whether the graph without its loops is a forest.
+    is_forest: bool,
+    has_negative: bool,
     leaves: Leaves,
     spread: Spread,
+    paths: Paths,
+    places: Places,
     pairs: Vec<Pair>,
     near: u32,
     /// How many arcs may be followed before a round.
     most_looks: u64,
 }
 
-impl Work {
-    /// What rounds begin with: the leaves and no pairs. Nothing if a component has an odd number of
-    /// leaves, or if there are leaves in a forest, whose one join another way finds sooner.
+/// Whether an edge has a negative weight.
+fn has_negative(instance: &Instance) -> bool {
+    for edge in instance.edge_list() {
+        if edge.w < 0 {
+            return true;
+        }
+    }
+    false
+}
+
+/// Whether arcs and trees over so many vertices are those of a forest.
+fn is_forest(arcs: &Arcs, trees: &Trees, vertices: u32) -> bool {
+    let links = arcs.len() as u64 / 2;
+    links + u64::from(trees.count) == u64::from(vertices)
+}
+
+impl GuessTables {
+    /// The tables of a graph, for joins of this parity, in time and memory linear in its vertices
+    /// and edges. The values of the vertices may change between guesses.
+    ///
+    /// # Errors
+    ///
+    /// `OutOfMemory` if an allocation fails.
     pub fn new(
         alloc: Global,
         instance: &Instance,
-        parity: Parity,
-        most_looks: u64,
-    ) -> Result<Option<Work>, OutOfMemory> {
+        parity: &Parity,
+    ) -> Result<GuessTables, OutOfMemory> {
+        let vertices = instance.vertices();
         let arcs = Arcs::of(alloc, instance)?;
-        let Some(leaves) = leaves_of(alloc, instance, parity, &arcs)? else {
-            return Ok(None);
-        };
-        if leaves.is_forest && leaves.count > 0 {
-            return Ok(None);
-        }
-        let spread = Spread::new(alloc, instance.vertices())?;
-        Ok(Some(Work {
+        let trees = Trees::of(alloc, &arcs, vertices)?;
+        let is_forest = is_forest(&arcs, &trees, vertices);
+        Ok(GuessTables {
             alloc,
             arcs,
-            leaves,
-            spread,
+            trees,
+            odd: odd_by_edges(alloc, instance, *parity)?,
+            is_forest,
+            has_negative: has_negative(instance),
+            leaves: Leaves::new(alloc, vertices)?,
+            spread: Spread::new(alloc, vertices)?,
+            paths: Paths::new(alloc, instance.edges())?,
+            places: Places::new(alloc, vertices)?,
             pairs: Vec::new(alloc),
             near: NEAR,
-            most_looks,
-        }))
+            most_looks: 0,
+        })
+    }
+
+    /// Gives their memory back, as `drop` does. What their parts give back is proved here, once.
+    pub fn release(self) {}
+
+    /// Begins with the leaves of an instance and no pairs, if so many arcs may be followed. Answers
+    /// whether rounds may find a guess: each component has an even number of leaves, and the graph
+    /// isn't a forest with leaves, whose one join another way finds sooner.
+    pub(crate) fn begin(
+        &mut self,
+        instance: &Instance,
+        parity: Parity,
+        most_looks: u64,
+    ) -> Result<bool, OutOfMemory> {
+        self.spread.clear();
+        self.spread.looks = 0;
+        self.pairs.clear();
+        self.near = NEAR;
+        self.most_looks = most_looks;
+        if !self.leaves.find(instance, parity, &self.odd, &self.trees)? {
+            return Ok(false);
+        }
+        Ok(!self.is_forest || self.leaves.count == 0)
     }
 
     /// Adds the pairs of each leaf and the nearest others. Answers whether all were added.
@@ -131,22 +184,40 @@ impl Work {
     fn guess(
         &self,
         instance: &Instance,
-        used: &[bool],
         forest: &Forest,
-        places: &[Place],
+        meets: Vec<u32>,
     ) -> Result<Guess, OutOfMemory> {
+        let vertices = instance.vertices();
         Ok(Guess {
-            join: join_of(self.alloc, instance, used)?,
-            levels: levels_of(self.alloc, instance, forest, places)?,
+            join: self.paths.join(self.alloc, instance, self.has_negative)?,
+            levels: levels_of(self.alloc, forest, &self.places, vertices, meets)?,
         })
+    }
+
+    /// The guess of a forest whose nodes are as long as the paths, if each edge is at least as long
+    /// as the way between the places of its ends.
+    fn guess_if_wide(
+        &self,
+        instance: &Instance,
+        forest: &Forest,
+    ) -> Result<Option<Guess>, OutOfMemory> {
+        let length = self.paths.length(instance);
+        if !is_balanced(forest, &self.leaves, &self.spread, length) {
+            return Ok(None);
+        }
+        let mut meets = vec![in self.alloc; 0u32; instance.edges() as usize]?;
+        if !meet_all(&mut meets, &self.arcs, forest, &self.places) {
+            return Ok(None);
+        }
+        let guess = self.guess(instance, forest, meets)?;
+        Ok(Some(guess))
     }
 
     /// How a round ends that has found this.
     fn end_of(&mut self, instance: &Instance, found: &Found) -> Result<End, OutOfMemory> {
         let forest = forest_of(self.alloc, found)?;
-        let mut used = vec![in self.alloc; false; instance.edges() as usize + 1]?;
-        let paths = use_paths(
-            &mut used,
+        let length = use_paths(
+            &mut self.paths,
             &self.arcs,
             &self.leaves,
             &forest,
@@ -154,25 +225,17 @@ impl Work {
             found,
             &mut self.pairs,
         )?;
-        let places = places_of(
-            self.alloc,
+        find_places(
+            &mut self.places,
             &self.arcs,
             &self.leaves,
             &forest,
             &mut self.spread,
         )?;
-        let length = used_length(instance, &used);
-        if is_shown(
-            instance,
-            &self.leaves,
-            &forest,
-            &places,
-            &self.spread,
-            length,
-        ) {
-            return Ok(End::Shown(self.guess(instance, &used, &forest, &places)?));
+        if let Some(guess) = self.guess_if_wide(instance, &forest)? {
+            return Ok(End::Shown(guess));
         }
-        let is_shorter = paths < total_of(&forest);
+        let is_shorter = length < total_of(&forest);
         if self.add_more(instance, &forest, found, is_shorter)? {
             return Ok(End::Again);
         }
@@ -201,7 +264,7 @@ impl Work {
     }
 
     /// Rounds until one has a guess, or nothing if none has.
-    pub fn run<L: Ledger>(
+    pub(crate) fn run<L: Ledger>(
         &mut self,
         instance: &Instance,
         budget: &mut u64,
@@ -210,8 +273,8 @@ impl Work {
         ensures { 2 * steps.new + budget.new ≤ 2 * steps.old + budget.old }
     {
         add_neighbours(
+            self.alloc,
             &mut self.pairs,
-            instance,
             &self.arcs,
             &self.leaves,
             &mut self.spread,

@@ -113,7 +113,7 @@ impl Spread {
     }
 
     /// Goes on along an arc, if that ends above the floor.
-    fn go_on(
+    pub fn go_on(
         &mut self,
         arc: &Arc,
         vertex: VertexId,

@@ -5,7 +5,7 @@ ghost use Rattle.mb_problem.specs.declared.answer.Parity.TheVariants.{Values};
 ghost use Rattle.mb_problem.specs.Joins.{HasJoin};
 ghost use Rattle.mb_problem.specs.Size.{ports_size, odd_at};
 
-use array_joins::guessed_join;
+use array_joins::{GuessTables, guessed_join};
 use graph_parts::{JoinOrOdd, join_or_odd};
 use graph_theory::{GRAPH_EDGE_LIMIT, GRAPH_VERTEX_LIMIT};
 use least_joins::least_join;
@@ -39,8 +39,13 @@ pub fn guessed<L: Ledger>(
     requires some { 0 < blank.parts }
 {
     assert!(rt; is_searchable(instance));
+    let parity = Parity::Values;
+    let size = gadget_size(instance, Kind::TJoin);
+    let mut tables = GuessTables::new(alloc, instance, &parity)?;
     let mut steps = Steps::<L>::new(blank);
-    guessed_join(alloc, instance, &Parity::Values, &mut steps)
+    let join = guessed_join(alloc, &mut tables, instance, &parity, size, &mut steps);
+    tables.release();
+    join
 }
 
 /// Whether there is a join.

@@ -2,7 +2,7 @@ use Rattle.mb_problem.proofs.Common.{◌≡◌, ◌+◌, ◌≤◌}
 use Rattle.gadget_base.proofs.Common.{tabled}
 use Rattle.array_joins.specs.Sets.{set_at}
 use Rattle.array_joins.specs.Outcomes.{AnswersEach, steps_before}
-use Rattle.array_joins.proofs.joining.answer_all.Given as goal
+use Rattle.array_joins.proofs.joining.answer_each.Given as goal
 
 abbrev pub invariant-loop-k : goal.invariant-loop-k
 invariant-loop-k g l = record {

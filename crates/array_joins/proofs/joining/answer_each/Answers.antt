@@ -1,6 +1,6 @@
 use Rattle.mb_problem.proofs.Common.{ℕ, List, ◌∙◌, arith, Network}
 use Rattle.array_joins.proofs.Answered.{steps-grow, steps-more, counted, set-answered}
-use Rattle.array_joins.proofs.joining.answer_all.Goals as goal
+use Rattle.array_joins.proofs.joining.answer_each.Goals as goal
 
 pub returns-in_err-answer_set-clause-steps : goal.returns-in_err-answer_set-clause-steps
 returns-in_err-answer_set-clause-steps g c =
