@@ -78,7 +78,7 @@ fn has_negative(instance: &Instance) -> bool {
 /// Whether arcs and trees over so many vertices are those of a forest.
 fn is_forest(arcs: &Arcs, trees: &Trees, vertices: u32) -> bool {
     let links = arcs.len() as u64 / 2;
-    links + u64::from(trees.count) == u64::from(vertices)
+    links.wrapping_add(u64::from(trees.count)) == u64::from(vertices)
 }
 
 impl GuessTables {
