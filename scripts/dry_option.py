@@ -19,19 +19,9 @@ LISTED = (
 #: Those of them with clauses to copy.
 BY_CLAUSE = "Details.antt", "Settling.antt", "Briefs.antt"
 
-#: `brief-size` as it is copied, and by status. What is given of two values with one text is the
-#: same only for a status that is known.
-BRIEF_SIZE = "brief-size Dummy kind a numbers {0} brief h = given-size kind a numbers {0} h\n"
-STATUSES = "Done", "Rejected", "Malformed", "TooLarge", "OutOfMemory"
-
 #: What isn't a copy of a row: the file, a text, and what takes its place.
 OWN_ROWS = (
     ("detail.rt", "    Brief,\n", "    Brief,\n    /// A dummy.\n    Dummy,\n"),
-    (
-        "Briefs.antt",
-        BRIEF_SIZE.format("s"),
-        "".join(BRIEF_SIZE.format("status." + status) for status in STATUSES),
-    ),
     (
         "ArrayEndings.antt",
         "number_of_solving Brief = 2\n",
