@@ -3,7 +3,7 @@ vertices on one line, and its line comes after that one."""
 import re
 import sys
 
-from planting import clause_rows, code_rows, imported
+from planting import clause_rows, code_rows, imported, with_own
 
 #: What differs in a copy of a row of `q`: words, and then texts. The dummy excludes nothing.
 WORDS = {
@@ -68,7 +68,8 @@ OWN_ROWS = (
         "    fn put_last(&self, out: &mut Vec<u8>) -> Result<(), OutOfMemory>\n"
         "        ensures { OnOk result (out.new.items ≡ out.old.items\n"
         "            ++ parts_text (at_most_one Part.Split self.now.split\n"
-        "            ++ (at_most_one Part.Dummy self.now.dummy ++ map Part.Even self.now.paths))) }\n"
+        "            ++ (at_most_one Part.Dummy self.now.dummy"
+        " ++ map Part.Even self.now.paths))) }\n"
         "    {\n"
         "        self.put_split(out)?;\n"
         "        self.put_dummy(out)?;\n",
@@ -189,28 +190,18 @@ def with_blocks(text):
     return "\n\n".join(made) + "\n"
 
 
-def with_own(path, text):
-    """A text with what isn't a copy."""
-    for ending, old, new in OWN_ROWS:
-        if path.endswith("/" + ending):
-            if old not in text:
-                sys.exit(f"{path}: {old!r} isn't there")
-            text = text.replace(old, new, 1)
-    return text
-
-
 def with_rows(path, text):
     """The text of a file with all rows of the dummy."""
     if path.endswith(BY_LETTER):
         text = with_clauses(text)
     if path.endswith(".antt"):
         text = imported(text, "Split", "Dummy")
-    return with_own(path, with_blocks(with_lines(with_arms(text))))
+    return with_own(path, with_blocks(with_lines(with_arms(text))), OWN_ROWS)
 
 
 def plant(copy):
     """Plants the rows of the dummy in a copy of the crates."""
-    copy.change(FIRST, lambda text: with_own(FIRST, text))
+    copy.change(FIRST, lambda text: with_own(FIRST, text, OWN_ROWS))
     while (path := copy.lacking()) is not None:
         print("the compiler names", path, flush=True)
         rows = with_arms if path == FIRST else lambda text: with_rows(path, text)

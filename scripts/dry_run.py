@@ -3,6 +3,7 @@
 
 Usage: dry_run.py kind [--own-gadget] [--prove CRATE ..] [--keep FOLDER]
        dry_run.py letter [--prove CRATE ..] [--keep FOLDER]
+       dry_run.py option [--prove CRATE ..] [--keep FOLDER]
 
 kind    a kind that answers as `bmatch` does; with --own-gadget its certificate graph has a form of
         its own, built as that of `bmatch`. The compiler names each table in code that lacks a row,
@@ -11,6 +12,9 @@ kind    a kind that answers as `bmatch` does; with --own-gadget its certificate 
 letter  a line type of documents that has what `q` has, a set of vertices on one line. The compiler
         names src/letter.rt, src/part.rt and src/document.rt of `doc_format`. The other files are
         those of the list in docs/EXTENDING.md: the prover alone names them.
+option  a value of `Detail` that leaves out the certificate as `Brief` does, with a number for C.
+        The compiler names src/detail.rt of `solve_answers`. The other files are those of the list
+        in docs/EXTENDING.md but for the flag's in `match_cli`: the prover alone names them.
 
 At the end it prints all files that it changed and their number. This takes about five minutes.
 
@@ -23,6 +27,7 @@ import sys
 import tempfile
 
 import dry_letter
+import dry_option
 from planting import code_rows, copied, imported, prove
 
 # An enum, the variant whose rows are copied, and the dummy.
@@ -149,12 +154,16 @@ def plant_kind(copy, own):
         take_form(copy)
 
 
+# What is planted but kinds, by its name.
+PLANTERS = {"letter": dry_letter.plant, "option": dry_option.plant}
+
+
 def run(words, folder):
     copy = copied(folder)
     if words.what == "kind":
         plant_kind(copy, words.own_gadget)
     else:
-        dry_letter.plant(copy)
+        PLANTERS[words.what](copy)
     print("\n".join(copy.changed))
     print(len(copy.changed), "files", flush=True)
     prove(copy, words.prove)
@@ -162,7 +171,7 @@ def run(words, folder):
 
 def main():
     parser = argparse.ArgumentParser(description=__doc__.split("\n")[0])
-    parser.add_argument("what", choices=["kind", "letter"])
+    parser.add_argument("what", choices=["kind", *PLANTERS])
     parser.add_argument("--own-gadget", action="store_true", help="a form of certificate graph too")
     parser.add_argument("--prove", nargs="*", default=[], metavar="CRATE", help="crates to prove")
     parser.add_argument("--keep", metavar="FOLDER", help="make the copy there, and leave it")

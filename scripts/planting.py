@@ -67,6 +67,17 @@ def imported(text, variant, dummy):
     return re.sub(r"(TheVariants\.\{[^}]*\b%s\b)" % variant, r"\1, " + dummy, text)
 
 
+def with_own(path, text, rows):
+    """The text of a file with the rows that aren't copies: the end of a path, a text that has to be
+    there, and what takes its place."""
+    for ending, old, new in rows:
+        if path.endswith("/" + ending):
+            if old not in text:
+                sys.exit(f"{path}: {old!r} isn't there")
+            text = text.replace(old, new, 1)
+    return text
+
+
 class Copy:
     def __init__(self, top):
         self.top, self.changed = top, []
@@ -82,13 +93,15 @@ class Copy:
         return new != old
 
     def replace(self, path, old, new):
-        self.change(path, lambda text: text.replace(old, new, 1))
+        ending = os.path.basename(path)
+        self.change(path, lambda text: with_own(path, text, [(ending, old, new)]))
 
     def lacking(self):
         """The file that the compiler says lacks a row, if one does."""
         done = subprocess.run(
             ["rt", "try", "--", "--help"],
             cwd=os.path.join(self.top, "crates", "blossom"),
+            stdin=subprocess.DEVNULL,
             stdout=subprocess.PIPE,
             stderr=subprocess.STDOUT,
             text=True,
