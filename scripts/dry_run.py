@@ -97,6 +97,9 @@ CHAINS = [
     ),
 ]
 
+# Where definitions and proofs have a clause for each kind or form.
+BY_CLAUSE = "mb_problem/specs", "mb_problem/proofs", "gadget_base/specs", "array_call/proofs"
+
 
 def plant_own(copy, ending):
     for path, before, row in OWN_ROWS:
@@ -147,8 +150,8 @@ def plant_kind(copy, own):
     plant_code(copy, enums)
     copy.change("mb_problem/src/feasibility.rt", lambda text: code_rows(text, *KIND))
     plant_own(copy, ".antt")
-    for specs in ("mb_problem/specs", "mb_problem/proofs", "gadget_base/specs"):
-        copy.plant_clauses(specs, enums)
+    for folder in BY_CLAUSE:
+        copy.plant_clauses(folder, enums)
     plant_likeness(copy, own)
     if own:
         take_form(copy)
