@@ -8,6 +8,8 @@ use std::alloc::Global;
 pub(crate) struct Clusters {
     /// By leaf: another one of its cluster that is nearer to the one that stands for it, or itself.
     nexts: Vec<u32>,
+    /// By leaf that stands for a cluster: how many leaves that has.
+    sizes: Vec<u32>,
     /// By leaf that stands for a cluster: whether that has an odd number of leaves.
     odd: Vec<bool>,
     /// How many clusters have an odd number of leaves.
@@ -24,6 +26,7 @@ impl Clusters {
         nexts.push(leaves)?;
         Ok(Clusters {
             nexts,
+            sizes: vec![in alloc; 1u32; leaves as usize + 1]?,
             odd: vec![in alloc; true; leaves as usize + 1]?,
             odd_count: leaves,
         })
@@ -34,7 +37,7 @@ impl Clusters {
         self.odd_count > 0
     }
 
-    /// The leaf that stands for the cluster of a leaf.
+    /// The leaf that stands for the cluster of a leaf, in time logarithmic in its leaves.
     fn root(&self, leaf: u32) -> u32 {
         let mut at = leaf;
         for _ in 0..self.nexts.len() {
@@ -47,10 +50,19 @@ impl Clusters {
         at
     }
 
-    /// Makes the clusters of two leaves one.
+    /// The leaves that stand for the clusters of two leaves, that of the smaller cluster first.
+    fn roots(&self, one: u32, other: u32) -> (u32, u32) {
+        let first = self.root(one);
+        let second = self.root(other);
+        if item_at(&self.sizes, first, 0) > item_at(&self.sizes, second, 0) {
+            return (second, first);
+        }
+        (first, second)
+    }
+
+    /// Makes the clusters of two leaves one: the smaller one becomes part of the other.
     pub fn join(&mut self, one: u32, other: u32) {
-        let from = self.root(one);
-        let to = self.root(other);
+        let (from, to) = self.roots(one, other);
         if from == to {
             return;
         }
@@ -59,7 +71,9 @@ impl Clusters {
         if is_odd && was_odd {
             self.odd_count = self.odd_count.saturating_sub(2);
         }
+        let size = item_at(&self.sizes, from, 0).saturating_add(item_at(&self.sizes, to, 0));
         set_item(&mut self.nexts, from, to);
+        set_item(&mut self.sizes, to, size);
         set_item(&mut self.odd, to, is_odd != was_odd);
     }
 }
